@@ -1,0 +1,25 @@
+//! Records of the placement driver: timestamps, regions, stores, placement rules, steps, and lists of them.
+#![tactic(auto)]
+
+mod lists;
+mod memory;
+mod oracle;
+mod region;
+mod rule;
+mod stamp;
+mod step;
+mod store;
+mod text;
+
+pub use lists::{
+    Batches, Bytes, Constraints, Downs, Duplicate, Ids, Keys, Labels, Peers, Rules, Seq, Steps,
+    Texts, Windows,
+};
+pub use memory::NoMemory;
+pub use oracle::{Actor, Batch, CellWord, Seen, Window};
+pub use region::{DownPeer, Epoch, Peer, Region, RegionBeat, Role};
+pub use rule::{Constraint, Op, Rule, RuleRole};
+pub use stamp::{LOGICAL, pack, unpack};
+pub use step::Step;
+pub use store::{Label, StoreRec, StoreState};
+pub use text::Text;

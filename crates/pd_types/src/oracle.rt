@@ -1,0 +1,58 @@
+ghost use Rattle.std.specs.Prelude.{◌≡◌, ◌<◌, ◌≤◌};
+ghost use Rattle.pd_types.specs.Batch.{first_of};
+
+/// A batch of timestamps (pdpb `TsoResponse`): the `count` numbers that end with `last`, drawn in
+/// `term` at `driver`. A batch that was granted has a count from 1 to its last.
+#[derive(Clone, Copy, Debug, PartialEq, Eq)]
+pub struct Batch {
+    pub term: u64,
+    pub driver: u8,
+    pub last: u64,
+    pub count: u64,
+}
+
+impl Batch {
+    /// The first timestamp, for a batch with a count from 1 to its last.
+    pub fn first(&self) -> u64
+        requires some { 0 < self.now.count }
+        requires within { self.now.count ≤ self.now.last }
+        ensures value { result ≡ first_of self.now }
+    {
+        self.last - self.count + 1
+    }
+}
+
+/// The guarded cell of all drivers: the end of the last saved window, in milliseconds since the
+/// epoch and below 2^45, and the last term, at most 262143.
+#[derive(Clone, Copy, Debug, PartialEq, Eq)]
+pub struct CellWord {
+    pub saved: u64,
+    pub term: u64,
+}
+
+/// The window of a term: its driver may grant timestamps from `lo` up to `hi`, in milliseconds
+/// since the epoch. Before the first save of the term both are the saved time at which it was
+/// claimed.
+#[derive(Clone, Copy, Debug, PartialEq, Eq)]
+pub struct Window {
+    pub term: u64,
+    pub driver: u8,
+    pub lo: u64,
+    pub hi: u64,
+}
+
+/// The greatest term, and in it the greatest timestamp, that a caller has seen; zeros before the
+/// first.
+#[derive(Clone, Copy, Debug, PartialEq, Eq)]
+pub struct Seen {
+    pub term: u64,
+    pub last: u64,
+}
+
+/// Who acts: a driver or a client by its number from 1, or a store by its id.
+#[derive(Clone, Copy, Debug, PartialEq, Eq)]
+pub enum Actor {
+    Driver(u8),
+    Client(u8),
+    Store(u64),
+}

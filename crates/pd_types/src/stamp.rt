@@ -1,0 +1,31 @@
+ghost use Rattle.std.specs.Prelude.{◌≡◌, ◌<◌, ◌^◌, ℕ};
+ghost use Rattle.pd_types.specs.Timestamp.{timestamp, physical, logical};
+
+/// How many timestamps a millisecond has.
+pub const LOGICAL: u64 = 262144;
+
+/// The timestamp with these parts: milliseconds since the epoch, and a count within the
+/// millisecond.
+pub fn pack(physical: u64, logical: u64) -> u64
+    requires physical { physical < 2 ^ 46 }
+    requires logical { logical < 2 ^ 18 }
+    ensures value { result ≡ timestamp physical logical }
+{
+    physical * LOGICAL + logical
+}
+
+/// The physical and the logical part of a timestamp, as pd-ctl's `tso` shows them.
+pub fn unpack(ts: u64) -> (u64, u64)
+    ensures physical { result.0 ≡ physical ts }
+    ensures logical { result.1 ≡ logical ts }
+{
+    (ts / LOGICAL, ts % LOGICAL)
+}
+
+/// A timestamp is told by its parts, and its parts by it: `unpack` of what `pack` makes is the
+/// pair, and `pack` of what `unpack` gives is the timestamp.
+pub fn packs_and_unpacks()
+    ensures parts { (p l : ℕ) → l < 2 ^ 18 → (physical (timestamp p l) ≡ p) × (logical (timestamp p l) ≡ l) }
+    ensures whole { (ts : ℕ) → timestamp (physical ts) (logical ts) ≡ ts }
+    ensures below { (ts : ℕ) → logical ts < 2 ^ 18 }
+{}
