@@ -1,0 +1,12 @@
+//! Whole inputs, words and whole outputs.
+#![tactic(auto)]
+
+mod input;
+mod output;
+#[cfg(test)]
+mod tests;
+mod words;
+
+pub use input::{ReadRefusal, read_all};
+pub use output::put_all;
+pub use words::{number, spells_its_number};
