@@ -1,0 +1,10 @@
+use Rattle.pd_cluster.proofs.Endings.{ends}
+use Rattle.pd_cluster.proofs.Lawful.{safe_script}
+use Rattle.pd_cluster.proofs.top.pd_top.Goals as goal
+
+pub returns-in-Ok-respond-clause-answer : goal.returns-in-Ok-respond-clause-answer
+returns-in-Ok-respond-clause-answer g c =
+    let r = c.in-Ok-respond.ensures.answered in
+    rw (← c.of.ensures.value, c.in-Some.is)
+    (ends c.in-Some.command _ _ _ _ _ c.write_out-in-Ok-respond.ensures.read
+    (record { text = r.text; outcome = r.outcome; taken = r.taken; lawful = r.lawful; written = c.write_out-in-Ok-respond.ensures.written _ r.gives; history = safe_script r.text }))

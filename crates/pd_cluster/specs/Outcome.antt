@@ -1,0 +1,74 @@
+-- What a command answers to a text, and what a run of the program leaves of it (own choice).
+use Rattle.std.specs.Prelude.{◌≡◌, ◌⊎◌, ℕ, ◌<◌, List, ◌++◌, length, codes, Option, Result, Ok, Err, nat_lt, if◌then◌else◌}
+use Rattle.std.specs.Fmt.{decimal}
+use Rattle.std.specs.Io.KnownBytes.{Appends, Consumes, IsAtEnd, Keeps}
+use Rattle.pd_lines.specs.Output.{WritesPrefix}
+use Rattle.pd_cluster.specs.History.{IsSafe}
+use Rattle.pd_cluster.specs.Replay.{answers_from, answers_text, start, state_after}
+use Rattle.pd_cluster.specs.Script.{script_of}
+use Rattle.pd_cluster.specs.declared.command.Command.{Command}
+use Rattle.pd_cluster.specs.declared.command.Command.TheVariants.{Replay}
+use Rattle.pd_cluster.specs.declared.script.Line.{Line}
+use Rattle.pd_cluster.specs.declared.status.Status.{Status}
+use Rattle.pd_cluster.specs.declared.status.Status.TheVariants.{Done, Usage, Refused, ReadFault, WriteFault, NoMemory, Limit}
+
+-- a status and all that is written with it
+pub record Outcome : Type 0 where
+  pub status : Status
+  pub text : List ℕ
+
+-- the answer to words that are no command
+abbrev pub usage : Outcome
+usage = record { status = Usage; text = codes "usage: pd_cluster replay | run | gen FROM N | tso N\n" }
+
+-- the answer to a text that is too long
+abbrev pub limit_bytes : Outcome
+limit_bytes = record { status = Limit; text = codes "limit bytes 16777217\n" }
+
+-- the answer to a script, or to a text whose first line at fault has this number
+abbrev pub script_outcome : Result (List Line) ℕ → Outcome
+script_outcome (Ok lines) = record { status = Done; text = answers_text (answers_from start lines) }
+script_outcome (Err line) = record { status = Refused; text = codes "line " ++ decimal line ++ codes ": reason 3\n" }
+
+-- the answer of `replay` to the text that was read
+abbrev pub replay_outcome : List ℕ → Outcome
+replay_outcome text = if nat_lt 16777216 (length text) then limit_bytes else script_outcome (script_of text)
+
+-- a lawful outcome of a command over the text that it read
+abbrev pub IsOutcome : Command → List ℕ → Outcome → Type 0
+IsOutcome Replay text outcome = outcome ≡ replay_outcome text
+
+-- the oracle's part of the answers to a script is a safe history
+abbrev pub SafeScript : Result (List Line) ℕ → Type 0
+SafeScript (Ok lines) = IsSafe (state_after start lines).windows (answers_from start lines)
+SafeScript (Err line) = Unit {0}
+
+-- this text was taken, and it is the whole, or longer than the limit
+pub record Takes (old new : Option (List ℕ)) (text : List ℕ) : Type 0 where
+  pub taken : Consumes old new text
+  pub whole : (16777216 < length text) ⊎ IsAtEnd new
+
+-- what a command takes of the source
+abbrev pub Reads : Command → Option (List ℕ) → Option (List ℕ) → List ℕ → Type 0
+Reads Replay old new text = Takes old new text
+
+-- The outcome was written whole, or a fault of the sink or want of memory left a prefix of its text.
+abbrev pub Leaves : Outcome → Status → Option (List ℕ) → Option (List ℕ) → Type 0
+Leaves outcome WriteFault old new = WritesPrefix old new outcome.text
+Leaves outcome NoMemory old new = WritesPrefix old new outcome.text
+Leaves outcome status old new = (status ≡ outcome.status) × Appends old new outcome.text
+
+-- the text that was taken, a lawful outcome, what was written of it, and the history in it
+pub record Answers (command : Command) (status : Status) (left_old left_new held_old held_new : Option (List ℕ)) : Type 0 where
+  pub text : List ℕ
+  pub outcome : Outcome
+  pub taken : Reads command left_old left_new text
+  pub lawful : IsOutcome command text outcome
+  pub written : Leaves outcome status held_old held_new
+  pub history : SafeScript (script_of text)
+
+-- how a run of a command may end
+abbrev pub Ends : Command → Status → Option (List ℕ) → Option (List ℕ) → Option (List ℕ) → Option (List ℕ) → Type 0
+Ends command ReadFault left_old left_new held_old held_new = Keeps held_old held_new
+Ends command NoMemory left_old left_new held_old held_new = Keeps held_old held_new ⊎ Answers command NoMemory left_old left_new held_old held_new
+Ends command status left_old left_new held_old held_new = Answers command status left_old left_new held_old held_new

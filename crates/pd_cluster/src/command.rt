@@ -1,0 +1,22 @@
+ghost use Rattle.std.specs.Prelude.{◌≡◌, map, string_bytes};
+
+/// What the program is asked to do.
+#[derive(Clone, Copy, Debug, PartialEq, Eq)]
+pub enum Command {
+    /// Run the lines of a script in their order.
+    Replay,
+}
+
+impl Command {
+    ghost use Rattle.pd_cluster.specs.Command.{command_of};
+
+    /// The command that the words of a command line name.
+    pub fn of(words: &[String]) -> Option<Command>
+        ensures value { result ≡ command_of (map string_bytes words.now) }
+    {
+        match words {
+            [word] if word.as_str() == "replay" => Some(Command::Replay),
+            _ => None,
+        }
+    }
+}
