@@ -1,4 +1,3 @@
 pub mod Batch
-pub mod BeatCheck
 pub mod StepText
 pub mod Timestamp
