@@ -1,0 +1,11 @@
+pub mod SumLemmas
+pub mod Counting
+pub mod Duality
+pub mod Moves
+pub mod TrailLemmas
+pub mod SearchLemmas
+pub mod Totals
+pub mod FitLemmas
+pub mod Regions
+pub mod LawLemmas
+pub mod IdLemmas

@@ -1,0 +1,11 @@
+use Rattle.rule_fit.proofs.LawLemmas.{one_number, number_fits, fit_number}
+use Rattle.rule_fit.proofs.laws.one_misfit_number.Goals as goal
+
+pub returns-clause-one : goal.returns-clause-one
+returns-clause-one c = one_number
+
+pub returns-clause-zero_fits : goal.returns-clause-zero_fits
+returns-clause-zero_fits c = number_fits
+
+pub returns-clause-fits_zero : goal.returns-clause-fits_zero
+returns-clause-fits_zero c = fit_number

@@ -1,0 +1,11 @@
+pub mod Sums
+pub mod Table
+pub mod Assignment
+pub mod Chosen
+pub mod Ids
+pub mod Suits
+pub mod Certificate
+pub mod Trail
+pub mod Search
+pub mod Fit
+pub mod Isolation

@@ -1,0 +1,23 @@
+//! Whether a region's peers fit the placement rules, with a certificate where they don't.
+#![tactic(auto)]
+
+mod answer;
+mod assign;
+mod certificate;
+mod ids;
+mod isolation;
+mod laws;
+mod region;
+mod search;
+mod suiting;
+mod table;
+#[cfg(test)]
+mod tests;
+
+pub use answer::{Certificate, Fit, Places};
+pub use certificate::check_certificate;
+pub use ids::are_apart;
+pub use isolation::isolation_score;
+pub use laws::{certificate_refutes, one_misfit_number};
+pub use region::{fit, misfit_number};
+pub use suiting::{peer_suits, satisfies_all, store_suits};

@@ -1,0 +1,110 @@
+ghost use Rattle.std.specs.Prelude.{◌≡◌, ◌≤◌, ◌↔◌, length, IfOk, IsTrue};
+ghost use Rattle.rule_fit.specs.Assignment.{IsGreatest, Fits};
+ghost use Rattle.rule_fit.specs.Certificate.{IsMisfitNumber};
+ghost use Rattle.rule_fit.specs.Fit.{says_fits, given_of, IsCertified};
+ghost use Rattle.rule_fit.specs.Ids.{AreApart};
+ghost use Rattle.rule_fit.specs.Suits.{suits_in, counts_of};
+
+use crate::assign::{Matching, placed};
+use crate::certificate::total;
+use crate::ids::ids_of;
+use crate::table::matching;
+use crate::{Certificate, Fit, Places};
+use pd_types::{Ids, NoMemory, RegionBeat, Rule, Rules};
+use std::alloc::Global;
+use store_table::Stores;
+
+// Whether the region fits these rules.
+fn fit_rules(
+    alloc: Global,
+    beat: &RegionBeat,
+    rules: &[Rule],
+    stores: &Stores,
+    now: u64,
+) -> Result<Fit, NoMemory>
+    requires rules { length rules.now ≤ 64 }
+    requires apart { AreApart beat.now.region.peers }
+    ensures fits { IfOk result (λ fit. IsTrue (says_fits fit) ↔ Fits (suits_in beat.now rules.now stores.now now) (length beat.now.region.peers) (counts_of rules.now)) }
+    ensures greatest { IfOk result (λ fit. IsGreatest (suits_in beat.now rules.now stores.now now) (length beat.now.region.peers) (counts_of rules.now) (given_of fit)) }
+    ensures certificate { IfOk result (IsCertified (suits_in beat.now rules.now stores.now now) beat.now.region.peers (counts_of rules.now)) }
+{
+    let Matching { given, reached } = matching(alloc, beat, rules, stores, now)?;
+    let peers = beat.region.peers.as_slice();
+    let sum = total(rules);
+    let many = peers.len() as u64;
+    if sum != many {
+        return Ok(Fit::Misfit {
+            given: Places::of(given),
+            certificate: Certificate::Totals {
+                counts: sum,
+                peers: many,
+            },
+        });
+    }
+    if placed(&given) == peers.len() {
+        return Ok(Fit::Fits {
+            given: Places::of(given),
+        });
+    }
+    let ids = ids_of(alloc, peers, &reached)?;
+    Ok(Fit::Misfit {
+        given: Places::of(given),
+        certificate: Certificate::Peers(Ids::of(ids)),
+    })
+}
+
+/// Whether each peer of the region can be given one rule that it suits so that each rule has exactly
+/// its count of peers; an assignment that gives the most peers a rule; and a certificate where there
+/// is no fit. A region without rules never fits. It may be called with at most 15 peers, no two with
+/// one id, and at most 64 rules.
+pub fn fit(
+    alloc: Global,
+    beat: &RegionBeat,
+    rules: &Rules,
+    stores: &Stores,
+    now: u64,
+) -> Result<Fit, NoMemory>
+    requires peers { length beat.now.region.peers ≤ 15 }
+    requires rules { length rules.now ≤ 64 }
+    requires apart { AreApart beat.now.region.peers }
+    ensures fits { IfOk result (λ fit. IsTrue (says_fits fit) ↔ Fits (suits_in beat.now rules.now stores.now now) (length beat.now.region.peers) (counts_of rules.now)) }
+    ensures greatest { IfOk result (λ fit. IsGreatest (suits_in beat.now rules.now stores.now now) (length beat.now.region.peers) (counts_of rules.now) (given_of fit)) }
+    ensures certificate { IfOk result (IsCertified (suits_in beat.now rules.now stores.now now) beat.now.region.peers (counts_of rules.now)) }
+{
+    fit_rules(alloc, beat, rules.as_slice(), stores, now)
+}
+
+// How far the region is from a fit.
+fn misfit_of(
+    alloc: Global,
+    beat: &RegionBeat,
+    rules: &[Rule],
+    stores: &Stores,
+    now: u64,
+) -> Result<u64, NoMemory>
+    requires peers { length beat.now.region.peers ≤ 15 }
+    requires rules { length rules.now ≤ 64 }
+    ensures { IfOk result (IsMisfitNumber (suits_in beat.now rules.now stores.now now) (length beat.now.region.peers) (counts_of rules.now)) }
+{
+    let Matching { given, .. } = matching(alloc, beat, rules, stores, now)?;
+    let placed = placed(&given) as u64;
+    let open = total(rules) - placed;
+    let left = beat.region.peers.len() as u64 - placed;
+    Ok(open + left)
+}
+
+/// How far the region is from a fit: what is missing of the counts and of the peers, where the most
+/// peers have a rule. It is 0 exactly where the region fits. It may be called as `fit` may.
+pub fn misfit_number(
+    alloc: Global,
+    beat: &RegionBeat,
+    rules: &Rules,
+    stores: &Stores,
+    now: u64,
+) -> Result<u64, NoMemory>
+    requires peers { length beat.now.region.peers ≤ 15 }
+    requires rules { length rules.now ≤ 64 }
+    ensures value { IfOk result (IsMisfitNumber (suits_in beat.now rules.now stores.now now) (length beat.now.region.peers) (counts_of rules.now)) }
+{
+    misfit_of(alloc, beat, rules.as_slice(), stores, now)
+}

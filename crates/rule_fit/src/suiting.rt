@@ -1,0 +1,84 @@
+ghost use Rattle.std.specs.Prelude.{◌≡◌, List, ℕ};
+ghost use Rattle.rule_fit.specs.Suits.{value_of, satisfies, satisfies_all, store_suits, role_suits, peer_suits, labels_of, is_among};
+
+use pd_types::{Constraint, Constraints, Label, Op, Peer, Role, Rule, RuleRole, Text};
+use store_table::Stores;
+
+/// The value of a label, empty where there is none.
+pub fn value_of<'a>(key: &[u8], labels: &'a [Label]) -> &'a [u8]
+    ensures { result.now ≡ value_of key.now labels.now }
+{
+    for label in labels {
+        if label.key.as_bytes() == key {
+            return label.value.as_bytes();
+        }
+    }
+    b""
+}
+
+// Whether the value is one of these.
+fn is_among(value: &[u8], values: &[Text]) -> bool
+    ensures { result ≡ is_among value.now values.now }
+{
+    values.iter().any(|one| one.as_bytes() == value)
+}
+
+// Whether a store with these labels satisfies the constraint.
+fn satisfies(labels: &[Label], constraint: &Constraint) -> bool
+    ensures { result ≡ satisfies labels.now constraint.now }
+{
+    let value = value_of(constraint.key.as_bytes(), labels);
+    let values = constraint.values.as_slice();
+    match constraint.op {
+        Op::In => !value.is_empty() && is_among(value, values),
+        Op::NotIn => value.is_empty() || !is_among(value, values),
+        Op::Exists => !value.is_empty(),
+        Op::NotExists => value.is_empty(),
+    }
+}
+
+/// Whether a store with these labels satisfies all constraints.
+pub fn satisfies_all(labels: &[Label], constraints: &[Constraint]) -> bool
+    ensures value { result ≡ satisfies_all labels.now constraints.now }
+{
+    constraints.iter().all(|one| satisfies(labels, one))
+}
+
+/// Whether the store satisfies all constraints of the rule. A store that isn't known has no labels.
+pub fn satisfies_rule(stores: &Stores, store: u64, rule: &Rule) -> bool
+    ensures value { result ≡ satisfies_all (labels_of store stores.now) rule.now.constraints }
+{
+    let constraints = rule.constraints.as_slice();
+    match stores.get(store) {
+        Some(rec) => satisfies_all(rec.labels.as_slice(), constraints),
+        None => satisfies_all(&[], constraints),
+    }
+}
+
+/// Whether a peer on the store may count for the rule, its role aside: the store is usable and
+/// satisfies all constraints.
+pub fn store_suits(stores: &Stores, now: u64, store: u64, rule: &Rule) -> bool
+    ensures value { result ≡ store_suits stores.now now store rule.now }
+{
+    stores.is_usable(store, now) && satisfies_rule(stores, store, rule)
+}
+
+// Whether a peer of this role, which leads or doesn't, may count for a rule of that role.
+fn role_suits(rule: RuleRole, role: Role, leads: bool) -> bool
+    ensures { result ≡ role_suits rule role leads }
+{
+    match rule {
+        RuleRole::Voter => role == Role::Voter,
+        RuleRole::Leader => leads,
+        RuleRole::Follower => role == Role::Voter && !leads,
+        RuleRole::Learner => role == Role::Learner,
+    }
+}
+
+/// Whether the peer suits the rule, in a region with this leader.
+pub fn peer_suits(leader: u64, stores: &Stores, now: u64, peer: &Peer, rule: &Rule) -> bool
+    ensures value { result ≡ peer_suits leader stores.now now peer.now rule.now }
+{
+    store_suits(stores, now, peer.store, rule)
+        && role_suits(rule.role, peer.role, peer.id == leader)
+}

@@ -1,0 +1,30 @@
+-- Which placement rules are in force at a key (PD documentation, "Placement Rules": `start_key`, `end_key`, `override`).
+use Rattle.std.specs.Prelude.{ℕ, Bool, true, false, ◌&&◌, ◌||◌, not, nat_eq, if◌then◌else◌, List, [], ◌∷◌}
+use Rattle.std.specs.List.{list_any}
+use Rattle.std.specs.Ordering.{is_lt}
+use Rattle.std.specs.Cmp.Lexicographic.{pointwise}
+use Rattle.pd_types.specs.declared.rule.Rule.{Rule}
+use Rattle.rule_set.specs.Order.{bytes_order}
+
+-- there are no bytes
+abbrev pub is_empty : List ℕ → Bool
+is_empty [] = true
+is_empty (byte ∷ bytes) = false
+
+-- the key is in the range from a start up to an end; an empty end has no upper bound
+abbrev pub in_range : List ℕ → List ℕ → List ℕ → Bool
+in_range start end key = not (is_lt (bytes_order key start)) && (is_empty end || is_lt (bytes_order key end))
+
+-- the rule's range holds the key
+abbrev pub holds : Rule → List ℕ → Bool
+holds rule key = in_range rule.start rule.end key
+
+-- a later rule hides a rule at a key: it is of its group, its range holds the key, and it overrides
+abbrev pub hides : List ℕ → Rule → Rule → Bool
+hides key rule later = later.overrides && pointwise nat_eq later.group rule.group && holds later key
+
+-- of rules in order, those whose range holds the key and that no later one hides
+abbrev pub rules_at : List ℕ → List Rule → List Rule
+rules_at key [] = []
+rules_at key (rule ∷ later) =
+    if holds rule key && not (list_any (hides key rule) later) then rule ∷ rules_at key later else rules_at key later

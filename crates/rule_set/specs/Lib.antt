@@ -1,0 +1,4 @@
+pub mod Order
+pub mod InForce
+pub mod Borders
+pub mod Changes

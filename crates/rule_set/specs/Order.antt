@@ -1,0 +1,35 @@
+-- The order of placement rules (PD documentation, "Placement Rules": by group, index and id).
+use Rattle.std.specs.Prelude.{◌≡◌, ℕ, Bool, true, false, ◌&&◌, not, nat_eq, List, [], ◌∷◌, ◌++◌, filter, AllPairs}
+use Rattle.std.specs.Ordering.{nat_cmp, ordering_then, is_lt, is_gt}
+use Rattle.std.specs.declared.cmp.Ordering.{Ordering}
+use Rattle.std.specs.Cmp.Lexicographic.{slice_cmp, pointwise}
+use Rattle.pd_types.specs.declared.rule.Rule.{Rule}
+
+-- texts and keys are ordered byte by byte
+abbrev pub bytes_order : List ℕ → List ℕ → Ordering
+bytes_order one other = slice_cmp nat_cmp one other
+
+-- by group, then by index, then by id
+abbrev pub order_of : Rule → Rule → Ordering
+order_of one other =
+    ordering_then (bytes_order one.group other.group) (ordering_then (nat_cmp one.index other.index) (bytes_order one.id other.id))
+
+-- the first rule comes before the second
+abbrev pub comes_before : Rule → Rule → Bool
+comes_before one other = is_lt (order_of one other)
+
+-- no rule comes after one that stands behind it
+abbrev pub AreInOrder : List Rule → Type 0
+AreInOrder rules = AllPairs (λ one later. is_gt (order_of one later) ≡ false) rules
+
+-- the rule has this group and this id
+abbrev pub is_named : List ℕ → List ℕ → Rule → Bool
+is_named group id rule = pointwise nat_eq rule.group group && pointwise nat_eq rule.id id
+
+-- the rules of other names
+abbrev pub without : List ℕ → List ℕ → List Rule → List Rule
+without group id rules = filter (λ rule. not (is_named group id rule)) rules
+
+-- the rule behind those that come before it, and before the others
+abbrev pub placed : Rule → List Rule → List Rule
+placed rule rules = filter (λ one. comes_before one rule) rules ++ (rule ∷ filter (λ one. not (comes_before one rule)) rules)
