@@ -1,0 +1,15 @@
+//! The stores of a cluster: their records, heartbeats and states.
+#![tactic(auto)]
+
+mod entry;
+mod fault;
+mod names;
+mod places;
+mod table;
+#[cfg(test)]
+mod tests;
+
+pub use entry::{LIVE_MS, StoreEntry, USABLE_MS};
+pub use fault::StoreFault;
+pub use names::StateName;
+pub use table::{MOST_STORES, Stores};
