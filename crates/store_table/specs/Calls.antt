@@ -17,6 +17,7 @@ loaded rec moment = record { store = rec; began = moment; beat = None }
 abbrev pub heard : ℕ → StoreEntry → StoreEntry
 heard moment entry = record entry { beat = Some (later entry.beat moment) }
 
+-- the store with another state
 abbrev pub in_state : StoreState → StoreEntry → StoreEntry
 in_state state entry = record entry { store = record entry.store { state = state } }
 

@@ -23,16 +23,19 @@ pub record IsUsable (entry : StoreEntry) (now : ℕ) : Type 0 where
   pub up : entry.store.state ≡ states.Up
   pub recent : now ≤ later entry.beat entry.began + USABLE_MS
 
+-- the state is Up
 abbrev pub is_up : StoreState → Bool
 is_up states.Up = true
 is_up states.Offline = false
 is_up states.Tombstone = false
 
+-- the state isn't Tombstone
 abbrev pub is_kept : StoreState → Bool
 is_kept states.Up = true
 is_kept states.Offline = true
 is_kept states.Tombstone = false
 
+-- there is a heartbeat, at most 20 seconds old
 abbrev pub heard_since : Option ℕ → ℕ → Bool
 heard_since None now = false
 heard_since (Some beat) now = nat_le now (beat + LIVE_MS)
@@ -49,10 +52,12 @@ usable_test entry now = is_up entry.store.state && nat_le now (later entry.beat 
 abbrev pub name_of_up : Bool → Bool → StateName
 name_of_up usable live = if usable then (if live then names.Up else names.Disconnected) else names.Down
 
+-- Offline and Tombstone are named by the state alone
 abbrev pub name_in : StoreState → Bool → Bool → StateName
 name_in states.Up usable live = name_of_up usable live
 name_in states.Offline usable live = names.Offline
 name_in states.Tombstone usable live = names.Tombstone
 
+-- how pd-ctl names the store's state at a moment
 abbrev pub state_name : StoreEntry → ℕ → StateName
 state_name entry now = name_in entry.store.state (usable_test entry now) (live_test entry now)

@@ -18,7 +18,7 @@ fn lesser(entries: &[StoreEntry], id: u64) -> usize
     entries.partition_point(|entry| entry.store.id < id)
 }
 
-// The place of the store, or where it would stand.
+/// The place of the store, or where it would stand.
 pub fn search(entries: &[StoreEntry], id: u64) -> Result<usize, usize>
     requires { AreRising entries.now }
     ensures found { IfOk result (Stands id entries.now) }
@@ -31,7 +31,7 @@ pub fn search(entries: &[StoreEntry], id: u64) -> Result<usize, usize>
     }
 }
 
-// The place and the state of a store, or where it would stand.
+/// The place and the state of a store, or where it would stand.
 pub fn stand(entries: &[StoreEntry], id: u64) -> Result<(usize, StoreState), usize>
     requires { AreRising entries.now }
     ensures found { IfOk result (λ found. Stands id entries.now found.0) }
@@ -45,7 +45,7 @@ pub fn stand(entries: &[StoreEntry], id: u64) -> Result<(usize, StoreState), usi
     }
 }
 
-// The place of a known store that is no tombstone.
+/// The place of a known store that is no tombstone.
 pub fn kept(entries: &[StoreEntry], id: u64) -> Result<usize, StoreFault>
     requires { AreRising entries.now }
     ensures found { IfOk result (Stands id entries.now) }
@@ -59,7 +59,7 @@ pub fn kept(entries: &[StoreEntry], id: u64) -> Result<usize, StoreFault>
     }
 }
 
-// Puts the entry of a store that isn't known in its place.
+/// Puts the entry of a store that isn't known in its place.
 pub fn insert(
     entries: &mut Vec<StoreEntry>,
     place: usize,
@@ -82,7 +82,7 @@ pub fn insert(
     Ok(())
 }
 
-// Puts the entry of a known store in place of the one that it has.
+/// Puts the entry of a known store in place of the one that it has.
 pub fn replace(entries: &mut Vec<StoreEntry>, place: usize, entry: StoreEntry)
     requires rising { AreRising entries.old.items }
     requires known { Stands entry.store.id entries.old.items place }
@@ -102,7 +102,7 @@ fn later_of(beat: Option<u64>, moment: u64) -> u64
     }
 }
 
-// Puts a known store's record with a heartbeat in place of its entry.
+/// Puts a known store's record with a heartbeat in place of its entry.
 pub fn answer(entries: &mut Vec<StoreEntry>, place: usize, rec: StoreRec, moment: u64)
     requires rising { AreRising entries.old.items }
     requires known { Stands rec.id entries.old.items place }
@@ -117,7 +117,7 @@ pub fn answer(entries: &mut Vec<StoreEntry>, place: usize, rec: StoreRec, moment
     replace(entries, place, StoreEntry { store, began, beat });
 }
 
-// A heartbeat of the store at the place.
+/// A heartbeat of the store at the place.
 pub fn hear(entries: &mut [StoreEntry], place: usize, moment: u64)
     requires rising { AreRising entries.old }
     requires inside { place < length entries.old }
@@ -128,7 +128,7 @@ pub fn hear(entries: &mut [StoreEntry], place: usize, moment: u64)
     known.beat = Some(later_of(known.beat, moment));
 }
 
-// Another state of the store at the place.
+/// Another state of the store at the place.
 pub fn set_state(entries: &mut [StoreEntry], place: usize, state: StoreState)
     requires rising { AreRising entries.old }
     requires inside { place < length entries.old }
