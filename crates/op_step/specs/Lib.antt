@@ -1,0 +1,7 @@
+pub mod After
+pub mod Counts
+pub mod Finished
+pub mod Peers
+pub mod Safe
+pub mod Votes
+pub mod Wishes

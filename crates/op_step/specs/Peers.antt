@@ -1,0 +1,55 @@
+-- What a heartbeat says of a region's peers (kvproto, `metapb.Peer` and `pdpb.RegionHeartbeatRequest`).
+use Rattle.std.specs.Prelude.{ℕ, Bool, true, false, ◌&&◌, not, ◌==◌, List, Option, find}
+use Rattle.std.specs.List.{list_any}
+use Rattle.pd_types.specs.declared.region.Role.{Role}
+use Rattle.pd_types.specs.declared.region.Role.TheVariants as roles
+use Rattle.pd_types.specs.declared.region.Peer.{Peer}
+use Rattle.pd_types.specs.declared.region.RegionBeat.{RegionBeat}
+use Rattle.store_table.specs.declared.entry.StoreEntry.{StoreEntry}
+use Rattle.store_table.specs.Entries.{is_live}
+
+-- a peer of this role has a vote
+abbrev pub is_voting : Role → Bool
+is_voting roles.Voter = true
+is_voting roles.Learner = false
+is_voting roles.Incoming = false
+is_voting roles.Demoting = false
+
+-- a peer of this role takes the log and has no vote
+abbrev pub is_learning : Role → Bool
+is_learning roles.Voter = false
+is_learning roles.Learner = true
+is_learning roles.Incoming = false
+is_learning roles.Demoting = false
+
+-- the peer of this id on this store
+abbrev pub is_peer : ℕ → ℕ → Peer → Bool
+is_peer id store peer = peer.id == id && peer.store == store
+
+-- the region has that peer on that store
+abbrev pub has_peer : ℕ → ℕ → RegionBeat → Bool
+has_peer id store beat = list_any (is_peer id store) beat.region.peers
+
+-- the region has a peer on the store
+abbrev pub has_store : ℕ → RegionBeat → Bool
+has_store store beat = list_any (λ peer. peer.store == store) beat.region.peers
+
+-- the region has a peer of this id
+abbrev pub has_id : ℕ → RegionBeat → Bool
+has_id id beat = list_any (λ peer. peer.id == id) beat.region.peers
+
+-- the region's peer on the store
+abbrev pub peer_on : ℕ → RegionBeat → Option Peer
+peer_on store beat = find (λ peer. peer.store == store) beat.region.peers
+
+-- the leader reports the peer as down
+abbrev pub is_down : RegionBeat → ℕ → Bool
+is_down beat id = list_any (λ down. down.peer == id) beat.down
+
+-- the leader reports the peer as pending: it lacks parts of the log
+abbrev pub is_pending : RegionBeat → ℕ → Bool
+is_pending beat id = list_any (λ pending. pending == id) beat.pending
+
+-- the peer is on a live store, and neither down nor pending
+abbrev pub is_target : RegionBeat → List StoreEntry → ℕ → Peer → Bool
+is_target beat stores now peer = is_live peer.store now stores && not (is_down beat peer.id) && not (is_pending beat peer.id)

@@ -1,0 +1,14 @@
+//! Operator steps: what a step leaves, when it is done, whether it may be sent, and the steps of a wish.
+#![tactic(auto)]
+
+mod count;
+mod peers;
+mod regions;
+mod safety;
+#[cfg(test)]
+mod tests;
+mod wishes;
+
+pub use regions::{after, conf_change, finished};
+pub use safety::{Held, Why, gate};
+pub use wishes::{BuildFault, Wish, build, with_id};

@@ -1,0 +1,3 @@
+pub mod Charges
+pub mod Level
+pub mod Limits

@@ -1,0 +1,12 @@
+//! Store limits: how many peers a store may gain and lose in a minute.
+#![tactic(auto)]
+
+mod bucket;
+mod laws;
+mod limits;
+#[cfg(test)]
+mod tests;
+
+pub use bucket::{MAX_RATE, PEER_UNITS, START_RATE};
+pub use laws::one_number_is_the_least_over_all_charges;
+pub use limits::{LimitKind, Limited, Limits};
