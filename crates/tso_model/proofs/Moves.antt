@@ -106,6 +106,7 @@ starts k ok = record {
   };
   c = record {
     grown = λ d pos le. omega (arith, zero_at d pos);
+    counted = λ d pos le. omega (arith, zero_at d pos);
     founds = All-nil (λ (f : Found). (f.start ≤ f.cursor) × (f.cursor ≤ f.start + added_at f.driver []));
     refusals = All-nil (λ (r : Refusal). (passes r.at r.hi r.count ≡ true) × Bounded h r);
     silent = λ d pos le z told_one. in_nil (record { driver = d; word = told_one.0 }) told_one.2;
@@ -155,7 +156,7 @@ starts k ok = record {
 -- SPLITTING
 -- the parts that speak of no view
 pub same_c : (k : Setup) (words : List ℕ) (views others : List View) (h : History) → PartC k words views h → PartC k words others h
-same_c k words views others h s = record { grown = s.grown; founds = s.founds; refusals = s.refusals; silent = s.silent; looks = s.looks }
+same_c k words views others h s = record { grown = s.grown; counted = s.counted; founds = s.founds; refusals = s.refusals; silent = s.silent; looks = s.looks }
 
 pub record OwesSplit (k : Setup) (words : List ℕ) (h : History) (v left right : View) : Type 0 where
   pub live : (left.spent ≡ false) × (right.spent ≡ false)

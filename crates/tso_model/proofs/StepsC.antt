@@ -82,6 +82,7 @@ cell_c k words views others h x c past s later =
     let g = with_windows h c past in
     let more : More h g = record { later = later; starts = λ q m. m; sums = λ d. omega arith; sums_else = λ c d. omega arith } in record {
       grown = λ d pos le. omega (arith, cell_cursor words x d pos, s.grown d pos le);
+      counted = λ d pos le. omega (arith, cell_cursor words x d pos, s.counted d pos le);
       founds = s.founds;
       refusals = refusals_later h g more s.refusals;
       silent = λ d pos le zero_word told_one. s.silent d pos le (sym (cell_else words x d pos) ∙ zero_word) told_one;
@@ -111,6 +112,9 @@ raised_c k words views others h id at v a b s here may =
       grown = λ d pos le'. dite (ℕ_discrete d v.driver)
           (λ same. omega (arith, cursor_here k words views h x d v.driver a may.0 le same, ap (λ (m : ℕ). slice_index words (cursor_at m)) same, grown_here d v.driver at h.starts same, s.grown d pos le'))
           (λ ne. omega (arith, cursor_else words x d v.driver ne, grown_else d v.driver at h.starts ne, s.grown d pos le'));
+      counted = λ d pos le'. dite (ℕ_discrete d v.driver)
+          (λ same. omega (arith, cursor_here k words views h x d v.driver a may.0 le same, ap (λ (m : ℕ). slice_index words (cursor_at m)) same, s.counted d pos le'))
+          (λ ne. omega (arith, cursor_else words x d v.driver ne, s.counted d pos le'));
       founds = All-push (λ (f : Found). (f.start ≤ f.cursor) × (f.cursor ≤ f.start + added_at f.driver h.added)) h.founds (the_found v n) s.founds
           (omega (arith, mine.own_start may.0, b.raised v.driver may.0 le), omega (arith, mine.own_start may.0, s.grown v.driver may.0 le));
       refusals = refusals_later h g more s.refusals;
@@ -127,6 +131,7 @@ published_c k words views others h e x a s pos low =
     let later = same_windows h g refl refl (λ d. omega arith) (λ q m. Contains-append_left h.published (p ∷ []) q m) in
     let more : More h g = record { later = later; starts = λ q m. m; sums = λ d. omega arith; sums_else = λ c d. omega arith } in record {
       grown = λ d p_d le. omega (arith, limit_cursor words x d e p_d pos, s.grown d p_d le);
+      counted = λ d p_d le. omega (arith, limit_cursor words x d e p_d pos, s.counted d p_d le);
       founds = s.founds;
       refusals = refusals_later h g more s.refusals;
       silent = λ d p_d le zero_word told_one. dite (ℕ_discrete d e)
@@ -166,6 +171,7 @@ looked_c k words views others h id e v a b s at may =
       some = λ nz. (a.limits e may.2 may.3 nz).0;
     } in record {
       grown = λ d pos le. omega (arith, ap (λ (l : List ℕ). slice_index l (cursor_at d)) same, s.grown d pos le);
+      counted = λ d pos le. omega (arith, ap (λ (l : List ℕ). slice_index l (cursor_at d)) same, s.counted d pos le);
       founds = s.founds;
       refusals = refusals_later h g more s.refusals;
       silent = λ d pos le zero_word told_one. s.silent d pos le (sym (ap (λ (l : List ℕ). slice_index l (limit_at d)) same) ∙ zero_word) told_one;
@@ -206,6 +212,7 @@ refused_c k words views others h id n v a b s at pos has full =
     let more : More h g = record { later = later; starts = λ q m. m; sums = λ d. omega arith; sums_else = λ c d. omega arith } in
     let same : slice_set words (cursor_at (hand v).driver) x ≡ words = set-get_or words (cursor_at (hand v).driver) 0 in record {
       grown = λ d p le. omega (arith, ap (λ (l : List ℕ). slice_index l (cursor_at d)) same, s.grown d p le);
+      counted = λ d p le. omega (arith, ap (λ (l : List ℕ). slice_index l (cursor_at d)) same, s.counted d p le);
       founds = s.founds;
       refusals = All-push (λ (r : Refusal). (passes r.at r.hi r.count ≡ true) × Bounded g r) h.refusals (the_refusal v x n) (refusals_later h g more s.refusals) (full, bounded_later h g (the_refusal v x n) more (refusal_bounded k words views h id n v a b s at pos has));
       silent = λ d p le zero_word told_one. s.silent d p le (sym (ap (λ (l : List ℕ). slice_index l (limit_at d)) same) ∙ zero_word) told_one;
@@ -217,6 +224,7 @@ pub armed_c : (k : Setup) (words : List ℕ) (views others : List View) (h : His
 armed_c k words views others h i s = let same : slice_set words i (slice_index words i) ≡ words = set-get_or words i 0 in
     record {
       grown = subst (λ (l : List ℕ). (d : ℕ) → 0 < d → d ≤ k.drivers → slice_index l (cursor_at d) ≤ greatest d h.starts + added_at d h.added) (sym same) s.grown;
+      counted = subst (λ (l : List ℕ). (d : ℕ) → 0 < d → d ≤ k.drivers → added_at d h.added ≤ slice_index l (cursor_at d)) (sym same) s.counted;
       founds = s.founds;
       refusals = s.refusals;
       silent = subst (λ (l : List ℕ). (d : ℕ) → 0 < d → d ≤ k.drivers → slice_index l (limit_at d) ≡ 0 → ((word : ℕ) × (word ≢ 0) × Contains h.published (record { driver = d; word = word })) → Contains h.published (record { driver = d; word = 0 })) (sym same) s.silent;
@@ -228,6 +236,11 @@ added_here : (v : View) (xs : List Added) (d : ℕ) → d ≡ (hand v).driver �
 added_here v xs d same =
     let one : (let n : ℕ = cond (eqb (hand v).driver d) v.armed 0 in n) ≡ v.armed = by_eq (λ b. (let n : ℕ = cond b v.armed 0 in n) ≡ v.armed) (hand v).driver d (λ _. refl) (λ ne. absurd (ne (sym same))) in
     omega (arith, one, total-append (λ (a : Added). cond (eqb a.driver d) a.count 0) xs (the_added v ∷ []))
+
+added_other : (v : View) (xs : List Added) (d : ℕ) → d ≢ (hand v).driver → added_at d (xs ++ the_added v ∷ []) ≡ added_at d xs
+added_other v xs d apart =
+    let none : (let n : ℕ = cond (eqb (hand v).driver d) v.armed 0 in n) ≡ 0 = by_eq (λ b. (let n : ℕ = cond b v.armed 0 in n) ≡ 0) (hand v).driver d (λ z. absurd (apart (sym z))) (λ _. refl) in
+    omega (arith, none, total-append (λ (a : Added). cond (eqb a.driver d) a.count 0) xs (the_added v ∷ []))
 
 pub sums_grow : (h : History) (v : View) → More h (with_added h v)
 sums_grow h v = record {
@@ -248,6 +261,9 @@ added_c k words views others h v a s pos low =
       grown = λ d p le. dite (ℕ_discrete d e)
           (λ same. omega (arith, cursor_here k words views h x d e a pos low same, ap (λ (m : ℕ). slice_index words (cursor_at m)) same, added_here v h.added d same, s.grown d p le))
           (λ ne. omega (arith, cursor_else words x d e ne, more.sums d, s.grown d p le));
+      counted = λ d p le. dite (ℕ_discrete d e)
+          (λ same. omega (arith, cursor_here k words views h x d e a pos low same, ap (λ (m : ℕ). slice_index words (cursor_at m)) same, added_here v h.added d same, s.counted d p le))
+          (λ ne. omega (arith, cursor_else words x d e ne, added_other v h.added d ne, s.counted d p le));
       founds = founds_later h g more s.founds;
       refusals = refusals_later h g more s.refusals;
       silent = λ d p le zero_word told_one. s.silent d p le (sym (cursor_limit words x d e p) ∙ zero_word) told_one;
@@ -268,6 +284,7 @@ drew_c k words views others h id v a b s at may full =
     let later = same_windows m g refl refl (λ d. omega arith) (λ p q. q) in
     let more : More m g = record { later = later; starts = λ q z. z; sums = λ d. omega arith; sums_else = λ c d. omega arith } in record {
       grown = c.grown;
+      counted = c.counted;
       founds = c.founds;
       refusals = All-push (λ (r : Refusal). (passes r.at r.hi r.count ≡ true) × Bounded g r) h.refusals (the_refusal v n v.armed) (refusals_later m g more c.refusals)
           (full, bounded_later m g (the_refusal v n v.armed) more (bounded_later h m (the_refusal v n v.armed) (sums_grow h v) (refusal_bounded k words views h id v.armed v a b s at may.0 may.1)));
@@ -288,6 +305,7 @@ granted_c k words views others h id v a b s at may =
     let later = same_windows m g refl refl (λ d. omega arith) (λ p q. q) in
     let more : More m g = record { later = later; starts = λ q z. z; sums = λ d. omega arith; sums_else = λ c d. omega arith } in record {
       grown = c.grown;
+      counted = c.counted;
       founds = c.founds;
       refusals = refusals_later m g more c.refusals;
       silent = c.silent;

@@ -159,6 +159,8 @@ pub record Looked (h : History) (l : Look) : Type 0 where
 pub record PartC (k : Setup) (words : List ℕ) (views : List View) (h : History) : Type 0 where
   -- a cursor stands at most all that was added at it above its driver's greatest start, and so it did whenever the driver found it
   pub grown : (d : ℕ) → 0 < d → d ≤ k.drivers → slice_index words (cursor_at d) ≤ greatest d h.starts + added_at d h.added
+  -- all that was added at a cursor still stands in it
+  pub counted : (d : ℕ) → 0 < d → d ≤ k.drivers → added_at d h.added ≤ slice_index words (cursor_at d)
   pub founds : All (λ (f : Found). (f.start ≤ f.cursor) × (f.cursor ≤ f.start + added_at f.driver h.added)) h.founds
   -- each refusal passes, at a cursor that is bounded
   pub refusals : All (λ (r : Refusal). (passes r.at r.hi r.count ≡ true) × Bounded h r) h.refusals
