@@ -1,0 +1,59 @@
+// What the definitions give, by themselves.
+ghost use Rattle.std.specs.Prelude.{◌≡◌, ℕ, List, [], ◌∷◌};
+ghost use mathlib.Core.Option.{some};
+ghost use lib.ListN.{get_elem?};
+ghost use Rattle.pd_types.specs.declared.oracle.Batch.{Batch};
+ghost use Rattle.tso_model.specs.declared.entries.Claim.{Claim};
+ghost use Rattle.tso_model.specs.declared.step.WordStep.{WordStep};
+ghost use Rattle.tso_model.specs.declared.view.Setup.{Setup};
+ghost use Rattle.tso_model.specs.declared.view.View.{View};
+ghost use Rattle.tso_model.specs.Words.{AreClaims, opening_claim};
+ghost use Rattle.tso_model.specs.Steps.{May};
+ghost use Rattle.tso_model.specs.Moves.{first_words, first_view};
+ghost use Rattle.tso_model.specs.Sound.{IsSetup, Sound, Keeps};
+ghost use Rattle.tso_model.specs.Ledger.{Recorded, KeepsLists, IsWindowList, back, HasAll, Gathered};
+ghost use Rattle.tso_model.specs.Laws.{DriverSplitKeeps, DriverSplitKeepsLists, ClientSplitKeeps, ClientSplitKeepsLists, NoteSplitKeeps, NoteSplitKeepsLists, JoinKeeps, JoinKeepsLists, CellOnlyRises, BeatenByAnother, LostToAnother, DrawsUnseen, DrawnInWindows, RisingAreEqual, SortedAreWhole};
+
+/// Each kind of step keeps the rule from any state that meets it, and makes of the windows and
+/// batches of the run what is said.
+pub fn each_step_keeps()
+    ensures rule { (k : Setup) (id : ℕ) (step : WordStep) (v : View) → May k step v → Keeps k id step v }
+    ensures lists { (k : Setup) (id : ℕ) (step : WordStep) (v : View) → May k step v → KeepsLists k id step v }
+{}
+
+/// Making gives a state that meets the rule, and splitting and joining keep it.
+pub fn each_move_keeps()
+    ensures made { (k : Setup) → IsSetup k → Sound k (first_words k) (first_view k ∷ []) }
+    ensures driver { (k : Setup) → DriverSplitKeeps k }
+    ensures client { (k : Setup) → ClientSplitKeeps k }
+    ensures note { (k : Setup) → NoteSplitKeeps k }
+    ensures join { (k : Setup) → JoinKeeps k }
+
+    // The same with the windows and batches of the run, which begin with the opening window.
+    ensures made_lists { (k : Setup) → IsSetup k →
+        Recorded k (first_words k) (first_view k ∷ []) ((opening_claim k.cell).window ∷ []) [] }
+    ensures driver_lists { (k : Setup) → DriverSplitKeepsLists k }
+    ensures client_lists { (k : Setup) → ClientSplitKeepsLists k }
+    ensures note_lists { (k : Setup) → NoteSplitKeepsLists k }
+    ensures join_lists { (k : Setup) → JoinKeepsLists k }
+{}
+
+/// What the number that a step finds tells its actor.
+pub fn each_step_learns()
+    ensures cell { (k : Setup) → CellOnlyRises k }
+    ensures beaten { (k : Setup) → BeatenByAnother k }
+    ensures lost { (k : Setup) → LostToAnother k }
+    ensures unseen { (k : Setup) → DrawsUnseen k }
+{}
+
+/// What the whole run's lists are, and that they can be told from one view that has all numbers.
+pub fn the_lists()
+    ensures windows { (first c : Claim) (past : List Claim) →
+        AreClaims first c past → IsWindowList first (back (c ∷ past)) }
+    ensures draws { (k : Setup) → DrawnInWindows k }
+    ensures gathered { (k : Setup) (words : List ℕ) (views : List View) (id : ℕ) (v : View) →
+        Sound k words views → get_elem? views id ≡ some v → HasAll k v → Gathered k v }
+    ensures sorted_windows { RisingAreEqual (λ (c : Claim). c.window.term) }
+    ensures sorted_batches { RisingAreEqual (λ (b : Batch). b.last) }
+    ensures sorted { (k : Setup) → SortedAreWhole k }
+{}

@@ -1,0 +1,12 @@
+//! The oracle as plain data: its words, what each actor knows, its steps, and the fact that they keep.
+#![tactic(auto)]
+
+mod entries;
+mod laws;
+mod step;
+mod view;
+
+pub use entries::{Added, Claim, Found, Grant, Limit, Look, Published, Refusal, Start};
+pub use laws::{each_move_keeps, each_step_keeps, each_step_learns, the_lists};
+pub use step::WordStep;
+pub use view::{Setup, View};
