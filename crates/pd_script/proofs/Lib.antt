@@ -1,0 +1,4 @@
+pub mod Cuts
+pub mod Greatest
+pub mod Readings
+pub mod Unbroken

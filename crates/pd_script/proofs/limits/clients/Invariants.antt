@@ -1,0 +1,9 @@
+use Rattle.std.proofs.Common.{◌≡◌, ◌≤◌, drop, max}
+use Rattle.pd_script.specs.Scripts.{greatest, client_of}
+use Rattle.pd_script.proofs.limits.clients.Given as goal
+
+abbrev pub invariant-loop-numbered : goal.invariant-loop-numbered
+invariant-loop-numbered l = record {
+  most : 1 ≤ l.most;
+  all : max (greatest client_of (drop l.numbered-index l.events)) l.most ≡ greatest client_of l.events;
+}

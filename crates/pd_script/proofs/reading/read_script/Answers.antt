@@ -1,0 +1,8 @@
+use Rattle.pd_script.proofs.Unbroken.{clients_within, drivers_within}
+use Rattle.pd_script.proofs.reading.read_script.Goals as goal
+
+pub lines_of-requires-clause-drivers : goal.lines_of-requires-clause-drivers
+lines_of-requires-clause-drivers c = rw (c.deref-2.ensures.value) (drivers_within _ (rw (c.deref.ensures.value) at c.in_default.ensures.value))
+
+pub lines_of-requires-clause-clients : goal.lines_of-requires-clause-clients
+lines_of-requires-clause-clients c = rw (c.deref-2.ensures.value) (clients_within _ (rw (c.deref.ensures.value) at c.in_default.ensures.value))

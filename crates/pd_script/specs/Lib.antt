@@ -1,0 +1,7 @@
+pub mod Grammar
+pub mod Numbering
+pub mod Places
+pub mod Refusals
+pub mod Scripts
+pub mod Table
+pub mod Words

@@ -1,0 +1,25 @@
+-- When a text is refused.
+use Rattle.std.specs.Prelude.{◌≡◌, ℕ, List, [], ◌∷◌, Option, Some, None, Result, Err}
+use Rattle.pd_script.specs.Grammar.{AtFault}
+use Rattle.pd_script.specs.declared.refusal.ScriptRefusal.{ScriptRefusal}
+use Rattle.pd_script.specs.declared.refusal.ScriptRefusal.TheVariants.{Fault, Limit, NoMemory}
+use Rattle.pd_script.specs.declared.script.Script.{Script}
+use Rattle.pd_script.specs.declared.verb.Event.{Event}
+use Rattle.pd_script.specs.declared.verb.Numbered.{Numbered}
+
+-- the refusal is the text's own, but for want of memory
+abbrev pub IsRefusal : Result Script ScriptRefusal → ScriptRefusal → Type 0
+IsRefusal script (Fault line reason) = script ≡ Err (Fault line reason)
+IsRefusal script (Limit what count) = script ≡ Err (Limit what count)
+IsRefusal script NoMemory = Unit {0}
+
+-- the refusal is the first line at fault, but for want of memory
+abbrev pub IsFault : Result (List Numbered) AtFault → ScriptRefusal → Type 0
+IsFault events (Fault line reason) = events ≡ Err (record { line = line; reason = reason })
+IsFault events (Limit what count) = ⊥
+IsFault events NoMemory = Unit {0}
+
+-- the events that a line adds
+abbrev pub kept : ℕ → Option Event → List Numbered
+kept number None = []
+kept number (Some event) = record { number = number; event = event } ∷ []

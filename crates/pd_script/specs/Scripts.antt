@@ -1,0 +1,122 @@
+-- The script of a text: its lines, and the limits that it keeps (own choice).
+use Rattle.std.specs.Prelude.{ℕ, List, [], ◌∷◌, length, map, max, nat_lt, Option, Some, None, Result, Ok, Err, if◌then◌else◌}
+use Rattle.pd_types.specs.declared.oracle.Actor.{Actor}
+use Rattle.pd_types.specs.declared.oracle.Actor.TheVariants.{Driver as ByDriver, Client as ByClient}
+use Rattle.pd_script.specs.Grammar.{AtFault, events_of}
+use Rattle.pd_script.specs.Table.{row}
+use Rattle.pd_script.specs.declared.act.Act.{Act}
+use Rattle.pd_script.specs.declared.act.Act.TheVariants.{Cell as CellAct, Lead as LeadAct, Tick as TickAct, Resign as ResignAct, Take as TakeAct, Tell as TellAct, Hear as HearAct, Read as ReadAct, Campaign as CampaignAct, Save as SaveAct, Raise as RaiseAct, Publish as PublishAct, Probe as ProbeAct, Look as LookAct, Arm as ArmAct, Draw as DrawAct}
+use Rattle.pd_script.specs.declared.act.Line.{Line}
+use Rattle.pd_script.specs.declared.limits.Broken.{Broken}
+use Rattle.pd_script.specs.declared.limits.TheConstants.{MAX_CLIENTS, MAX_DRIVERS, MAX_EVENTS}
+use Rattle.pd_script.specs.declared.place.Place.{Place}
+use Rattle.pd_script.specs.declared.place.Place.TheVariants.{Driver, Client, Moment, Count, Saved, Term}
+use Rattle.pd_script.specs.declared.refusal.Limited.TheVariants.{Events, Drivers, Clients}
+use Rattle.pd_script.specs.declared.refusal.ScriptRefusal.{ScriptRefusal}
+use Rattle.pd_script.specs.declared.refusal.ScriptRefusal.TheVariants.{Fault, Limit}
+use Rattle.pd_script.specs.declared.script.Mode.{Mode}
+use Rattle.pd_script.specs.declared.script.Script.{Script}
+use Rattle.pd_script.specs.declared.verb.Event.{Event}
+use Rattle.pd_script.specs.declared.verb.Numbered.{Numbered}
+use Rattle.pd_script.specs.declared.verb.Numbers.{Numbers}
+use Rattle.pd_script.specs.declared.verb.Places.{Places}
+use Rattle.pd_script.specs.declared.verb.Places.TheVariants.{One, Two, Three}
+use Rattle.pd_script.specs.declared.verb.Verb.{Verb}
+use Rattle.pd_script.specs.declared.verb.Verb.TheVariants.{Cell, Lead, Tick, Resign, Take, Tell, Hear, Read, Campaign, Save, Raise, Publish, Probe, Look, Arm, Draw}
+
+-- what a line does, by its first word and its numbers
+abbrev pub act_by : Verb → Numbers → Act
+act_by Cell n = CellAct n.first n.second
+act_by Lead n = LeadAct n.first n.second
+act_by Tick n = TickAct n.first n.second
+act_by Resign n = ResignAct n.first
+act_by Take n = TakeAct n.first n.second n.third
+act_by Tell n = TellAct n.first n.second
+act_by Hear n = HearAct n.first
+act_by Read n = ReadAct n.first n.second
+act_by Campaign n = CampaignAct n.first
+act_by Save n = SaveAct n.first
+act_by Raise n = RaiseAct n.first
+act_by Publish n = PublishAct n.first
+act_by Probe n = ProbeAct n.first n.second
+act_by Look n = LookAct n.first n.second
+act_by Arm n = ArmAct n.first n.second
+act_by Draw n = DrawAct n.first
+
+-- the actor of a place
+abbrev pub acting : Place → ℕ → Option Actor
+acting Driver n = Some (ByDriver n)
+acting Client n = Some (ByClient n)
+acting Moment n = None
+acting Count n = None
+acting Saved n = None
+acting Term n = None
+
+-- who acts: the driver or the client that stands first
+abbrev pub actor_by : Places → Numbers → Option Actor
+actor_by (One p) n = acting p n.first
+actor_by (Two p q) n = acting p n.first
+actor_by (Three p q r) n = acting p n.first
+
+-- the number, where the place is a driver's, else 0
+abbrev pub if_driver : Place → ℕ → ℕ
+if_driver Driver n = n
+if_driver Client n = 0
+if_driver Moment n = 0
+if_driver Count n = 0
+if_driver Saved n = 0
+if_driver Term n = 0
+
+-- the number, where the place is a client's, else 0
+abbrev pub if_client : Place → ℕ → ℕ
+if_client Driver n = 0
+if_client Client n = n
+if_client Moment n = 0
+if_client Count n = 0
+if_client Saved n = 0
+if_client Term n = 0
+
+-- the greatest number that stands in the places of one kind
+abbrev pub greatest_in : (Place → ℕ → ℕ) → Places → Numbers → ℕ
+greatest_in at (One p) n = at p n.first
+greatest_in at (Two p q) n = max (at p n.first) (at q n.second)
+greatest_in at (Three p q r) n = max (max (at p n.first) (at q n.second)) (at r n.third)
+
+-- the greatest driver that an event names
+abbrev pub driver_of : Event → ℕ
+driver_of event = greatest_in if_driver (row event.verb).places event.numbers
+
+-- the greatest client that an event names
+abbrev pub client_of : Event → ℕ
+client_of event = greatest_in if_client (row event.verb).places event.numbers
+
+-- the greatest of such numbers, at least 1
+abbrev pub greatest : (Event → ℕ) → List Numbered → ℕ
+greatest of [] = 1
+greatest of (e ∷ es) = max (of e.event) (greatest of es)
+
+-- the first limit that the events break
+abbrev pub broken_by : List Numbered → Option Broken
+broken_by events =
+    if nat_lt MAX_EVENTS (length events) then Some (record { what = Events; count = length events })
+    else if nat_lt MAX_DRIVERS (greatest driver_of events) then Some (record { what = Drivers; count = greatest driver_of events })
+    else if nat_lt MAX_CLIENTS (greatest client_of events) then Some (record { what = Clients; count = greatest client_of events })
+    else None
+
+-- the line of an event
+abbrev pub line_of : Numbered → Line
+line_of e = record { number = e.number; actor = actor_by (row e.event.verb).places e.event.numbers; act = act_by e.event.verb e.event.numbers }
+
+-- the script of these events, where no limit is broken
+abbrev pub unless_broken : List Numbered → Option Broken → Result Script ScriptRefusal
+unless_broken events (Some broken) = Err (Limit broken.what broken.count)
+unless_broken events None = Ok (record { drivers = greatest driver_of events; clients = greatest client_of events; lines = map line_of events })
+
+-- the script of the events, or the first line at fault
+abbrev pub script_by : Result (List Numbered) AtFault → Result Script ScriptRefusal
+script_by (Err fault) = Err (Fault fault.line fault.reason)
+script_by (Ok events) = unless_broken events (broken_by events)
+
+-- the script of a text, or the first line at fault and why, or else the first limit that is broken
+abbrev pub script_of : Mode → List ℕ → Result Script ScriptRefusal
+script_of mode text = script_by (events_of mode text)

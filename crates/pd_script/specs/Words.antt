@@ -1,0 +1,35 @@
+-- The lines of a text and the words of a line (own choice).
+use Rattle.std.specs.Prelude.{ℕ, List, [], ◌∷◌, ◌++◌, Bool, true, false, nat_eq, nat_lt, length, if◌then◌else◌}
+use Rattle.std.specs.List.{filter}
+
+-- what stands between spaces; this piece so far
+abbrev pub pieces_from : List ℕ → List ℕ → List (List ℕ)
+pieces_from piece [] = piece ∷ []
+pieces_from piece (b ∷ bs) = if nat_eq b 32 then piece ∷ pieces_from [] bs else pieces_from (piece ++ b ∷ []) bs
+
+-- the piece isn't empty
+abbrev pub is_word : List ℕ → Bool
+is_word piece = nat_lt 0 (length piece)
+
+-- the words of a line: what stands between spaces and isn't empty
+abbrev pub words : List ℕ → List (List ℕ)
+words line = filter is_word (pieces_from [] line)
+
+-- a line without its line feed, and whether it has one
+pub record RawLine : Type 0 where
+  pub bytes : List ℕ
+  pub ended : Bool
+
+-- what is left behind the last line feed
+abbrev pub last_line : List ℕ → List RawLine
+last_line [] = []
+last_line (b ∷ bs) = record { bytes = b ∷ bs; ended = false } ∷ []
+
+-- the lines of a text; this one so far
+abbrev pub lines_from : List ℕ → List ℕ → List RawLine
+lines_from line [] = last_line line
+lines_from line (b ∷ bs) = if nat_eq b 10 then record { bytes = line; ended = true } ∷ lines_from [] bs else lines_from (line ++ b ∷ []) bs
+
+-- the lines of a text
+abbrev pub raw_lines : List ℕ → List RawLine
+raw_lines text = lines_from [] text

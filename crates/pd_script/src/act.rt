@@ -1,0 +1,47 @@
+use pd_types::Actor;
+
+/// What a line does. Moments are in milliseconds since the epoch.
+#[derive(Clone, Copy, Debug, PartialEq, Eq)]
+pub enum Act {
+    /// The opening cell: the saved time and the last term.
+    Cell { saved: u64, term: u64 },
+    /// A whole campaign.
+    Lead { driver: u8, now: u64 },
+    /// A whole step of the driver's clock.
+    Tick { driver: u8, now: u64 },
+    /// The driver gives its term up.
+    Resign { driver: u8 },
+    /// A whole draw of `n` timestamps.
+    Take { client: u8, driver: u8, n: u64 },
+    /// Client `client` leaves a note for client `to`.
+    Tell { client: u8, to: u8 },
+    /// Takes the oldest note that is left for the client.
+    Hear { client: u8 },
+    /// Loads the cell, which begins a lead.
+    Read { driver: u8, now: u64 },
+    /// Claims the next term.
+    Campaign { driver: u8 },
+    /// Saves the end of the window.
+    Save { driver: u8 },
+    /// Raises the driver's cursor.
+    Raise { driver: u8 },
+    /// Publishes the limit, or 0 after a lost term.
+    Publish { driver: u8 },
+    /// Reads the driver's own cursor, which begins a tick.
+    Probe { driver: u8, now: u64 },
+    /// Loads the driver's limit, which begins a draw.
+    Look { client: u8, driver: u8 },
+    /// Loads the driver's cursor and arms `n`.
+    Arm { client: u8, n: u64 },
+    /// Adds the armed count to the cursor.
+    Draw { client: u8 },
+}
+
+/// A line of a script: its number, counted from 1 over all lines of the text, and who acts in it
+/// (none in a `cell` line).
+#[derive(Clone, Copy, Debug, PartialEq, Eq)]
+pub struct Line {
+    pub number: u32,
+    pub actor: Option<Actor>,
+    pub act: Act,
+}

@@ -1,0 +1,21 @@
+//! Scripts: their lines, the first line at fault and why, and their limits.
+#![tactic(auto)]
+
+mod act;
+mod limits;
+mod line;
+mod place;
+mod reading;
+mod refusal;
+mod script;
+mod split;
+#[cfg(test)]
+mod tests;
+mod verb;
+
+pub use act::{Act, Line};
+pub use place::Place;
+pub use reading::read_script;
+pub use refusal::{Limited, Reason, ScriptRefusal};
+pub use script::{Lines, Mode, Script};
+pub use verb::{Event, Standing, Verb};

@@ -1,0 +1,127 @@
+// What one line of a text says.
+ghost use Rattle.std.specs.Prelude.{◌≡◌, ◌∷◌, [], MatchResult};
+ghost use Rattle.pd_script.specs.Grammar.{content_of, event_of, has_bad_byte, numbers_of};
+ghost use Rattle.pd_script.specs.Words.{words};
+ghost use Rattle.pd_script.specs.Table.{is_misplaced};
+
+use crate::place::read_place;
+use crate::split::next_word;
+use crate::verb::{Event, Numbers, Places, Standing, verb_of};
+use crate::{Mode, Place, Reason};
+
+// The next word, which may not be missing.
+fn word(rest: &[u8]) -> Result<(&[u8], &[u8]), Reason>
+    ensures value { MatchResult result (λ p. words rest.now ≡ p.0.now ∷ words p.1.now) (λ reason. (words rest.now ≡ []) × (reason ≡ Reason.MissingWord)) }
+{
+    match next_word(rest) {
+        Some(parts) => Ok(parts),
+        None => Err(Reason::MissingWord),
+    }
+}
+
+// The number of a line with one place.
+fn one(p: Place, rest: &[u8]) -> Result<Numbers, Reason>
+    ensures value { result ≡ numbers_of (Places.One p) (words rest.now) }
+{
+    let (first, rest) = word(rest)?;
+    if let Some(_) = next_word(rest) {
+        return Err(Reason::ExtraWord);
+    }
+    Ok(Numbers {
+        first: read_place(p, first)?,
+        second: 0,
+        third: 0,
+    })
+}
+
+// The numbers of a line with two places.
+fn two(p: Place, q: Place, rest: &[u8]) -> Result<Numbers, Reason>
+    ensures value { result ≡ numbers_of (Places.Two p q) (words rest.now) }
+{
+    let (first, rest) = word(rest)?;
+    let (second, rest) = word(rest)?;
+    if let Some(_) = next_word(rest) {
+        return Err(Reason::ExtraWord);
+    }
+    Ok(Numbers {
+        first: read_place(p, first)?,
+        second: read_place(q, second)?,
+        third: 0,
+    })
+}
+
+// The numbers of a line with three places.
+fn three(p: Place, q: Place, r: Place, rest: &[u8]) -> Result<Numbers, Reason>
+    ensures value { result ≡ numbers_of (Places.Three p q r) (words rest.now) }
+{
+    let (first, rest) = word(rest)?;
+    let (second, rest) = word(rest)?;
+    let (third, rest) = word(rest)?;
+    if let Some(_) = next_word(rest) {
+        return Err(Reason::ExtraWord);
+    }
+    Ok(Numbers {
+        first: read_place(p, first)?,
+        second: read_place(q, second)?,
+        third: read_place(r, third)?,
+    })
+}
+
+fn numbers(places: Places, rest: &[u8]) -> Result<Numbers, Reason>
+    ensures value { result ≡ numbers_of places (words rest.now) }
+{
+    match places {
+        Places::One(p) => one(p, rest),
+        Places::Two(p, q) => two(p, q, rest),
+        Places::Three(p, q, r) => three(p, q, r, rest),
+    }
+}
+
+// Whether a line with this standing may not stand here.
+fn misplaced(mode: Mode, first: bool, standing: Standing) -> bool
+    ensures value { result ≡ is_misplaced mode first standing }
+{
+    match standing {
+        Standing::Anywhere => false,
+        Standing::Opening => !first,
+        Standing::SingleStep => mode == Mode::Run,
+    }
+}
+
+// What a line with this first word says.
+fn event(mode: Mode, first: bool, name: &[u8], rest: &[u8]) -> Result<Event, Reason>
+    ensures value { result ≡ event_of mode first (name.now ∷ words rest.now) }
+{
+    let Some(verb) = verb_of(name) else {
+        return Err(Reason::UnknownWord);
+    };
+    if misplaced(mode, first, verb.standing()) {
+        return Err(Reason::Misplaced);
+    }
+    let numbers = numbers(verb.places(), rest)?;
+    Ok(Event { verb, numbers })
+}
+
+fn bad_byte(line: &[u8]) -> bool
+    ensures value { result ≡ has_bad_byte line.now }
+{
+    line.iter().any(|b| *b < 0x20 || *b > 0x7E)
+}
+
+/// What a line that has its line feed says, none where it is passed over; `first` says whether no
+/// event stands before it.
+pub fn content(mode: Mode, first: bool, line: &[u8]) -> Result<Option<Event>, Reason>
+    ensures value { result ≡ content_of mode first line.now }
+{
+    let Some((name, rest)) = next_word(line) else {
+        return Ok(None);
+    };
+    if name.starts_with(b"#") {
+        return Ok(None);
+    }
+    if bad_byte(line) {
+        return Err(Reason::BadByte);
+    }
+    let event = event(mode, first, name, rest)?;
+    Ok(Some(event))
+}

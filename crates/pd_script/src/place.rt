@@ -1,0 +1,61 @@
+ghost use Rattle.std.specs.Prelude.{◌≡◌};
+ghost use Rattle.pd_script.specs.Places.{least, most, read_place};
+
+use crate::Reason;
+use pd_lines::number;
+
+/// What may stand in a place of a line.
+#[derive(Clone, Copy, Debug, PartialEq, Eq)]
+pub enum Place {
+    /// A driver's number, from 1.
+    Driver,
+    /// A client's number, from 1.
+    Client,
+    /// A moment in milliseconds since the epoch.
+    Moment,
+    /// A count of timestamps.
+    Count,
+    /// A saved time in milliseconds since the epoch.
+    Saved,
+    Term,
+}
+
+impl Place {
+    /// The least number of the place.
+    pub fn least(self) -> u64
+        ensures value { result ≡ least self }
+    {
+        match self {
+            Place::Driver | Place::Client | Place::Count => 1,
+            Place::Moment | Place::Saved | Place::Term => 0,
+        }
+    }
+
+    /// The greatest number of the place.
+    pub fn most(self) -> u64
+        ensures value { result ≡ most self }
+    {
+        match self {
+            Place::Driver | Place::Client => u64::MAX,
+            Place::Moment => (1 << 46) - 1,
+            Place::Saved => (1 << 45) - 1,
+            Place::Count | Place::Term => 262_143,
+        }
+    }
+}
+
+/// The number that a word stands for in a place.
+pub fn read_place(place: Place, word: &[u8]) -> Result<u64, Reason>
+    ensures value { result ≡ read_place place word.now }
+{
+    match number(word) {
+        None => Err(Reason::BadNumber),
+        Some(n) => {
+            if place.least() <= n && n <= place.most() {
+                Ok(n)
+            } else {
+                Err(Reason::OutOfRange)
+            }
+        }
+    }
+}

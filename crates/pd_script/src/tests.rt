@@ -1,0 +1,212 @@
+// Lines with the reason for which they are at fault, 0 where they are events.
+use crate::{Act, Limited, Mode, Reason, ScriptRefusal, read_script};
+use pd_types::Actor;
+use std::alloc::Global;
+use std::process::Abort;
+use std::test::Fail;
+
+const REPLAY: &str = "\
+0 cell 0 0
+0 cell 35184372088831 262143
+7 cell 35184372088832 0
+7 cell 0 262144
+6 cell x 0
+4 cell 1
+5 cell 1 2 3
+0 lead 1 0
+0 lead 1 70368744177663
+7 lead 1 70368744177664
+7 lead 0 1
+6 lead 01 1
+6 lead +1 1
+6 lead 1 1.0
+6 lead 1 18446744073709551616
+7 lead 0 x
+6 lead x 70368744177664
+4 lead
+4 lead 1
+5 lead 1 2 3
+5 lead x y z
+4 lead x
+0 tick 7 1
+7 tick 0 1
+6 tick 1 -1
+4 tick 1
+5 tick 1 1 1
+0 resign 1
+7 resign 0
+4 resign
+5 resign 1 1
+0 take 64 7 262143
+0 take 1 1 1
+7 take 1 1 0
+7 take 1 1 262144
+7 take 0 1 1
+7 take 1 0 1
+6 take 1 1 0x1
+4 take 1 1
+5 take 1 1 1 1
+0 tell 1 1
+0 tell 64 1
+7 tell 1 0
+6 tell a 1
+4 tell 1
+5 tell 1 2 3
+0 hear 1
+7 hear 0
+4 hear
+5 hear 1 1
+0 read 1 0
+0 read 1 70368744177663
+7 read 1 70368744177664
+4 read 1
+0 campaign 1
+7 campaign 0
+5 campaign 1 1
+0 save 1
+6 save one
+4 save
+0 raise 1
+5 raise 1 1
+0 publish 7
+7 publish 0
+0 probe 1 5
+6 probe 1 5s
+4 probe 1
+0 look 1 1
+7 look 1 0
+5 look 1 1 1
+0 arm 1 262143
+7 arm 1 262144
+7 arm 1 0
+4 arm 1
+0 draw 1
+5 draw 1 2
+3 hello 1 1 1 a
+3 run
+3 Lead 1 1
+3 lea 1 1
+3 leads 1 1
+3 lead1 1
+0    lead   1   1
+0 # lead
+0    # a comment of any kind: 0 x
+";
+
+const RUN: &str = "\
+0 lead 1 1
+9 read 1 1
+9 read
+9 campaign 1
+9 save
+9 raise 1 1 1
+9 publish x
+9 probe 1 1
+9 look 0 0
+9 arm 1 0
+9 draw
+4 lead 1
+";
+
+fn number(outcome: Result<(), ScriptRefusal>) -> u8 {
+    match outcome {
+        Ok(()) => 0,
+        Err(ScriptRefusal::Fault { line: 1, reason }) => reason.number(),
+        Err(_) => 255,
+    }
+}
+
+// Reads each case, a reason and a line, as a text of its own.
+fn expect_all(rt: &impl Abort, alloc: Global, cases: &str, mode: Mode) -> Result<(), Fail> {
+    for case in cases.lines() {
+        let (wanted, line) = case.split_at(2);
+        let text = format!(in alloc; "{line}\n")?;
+        let outcome = read_script(alloc, text.as_bytes(), mode).map(|_| ());
+        let got = format!(in alloc; "{} ", number(outcome))?;
+        assert_eq!(rt; got.as_str(), wanted, "{line}");
+    }
+    Ok(())
+}
+
+#[test]
+fn lines_are_events_or_at_fault_with_their_reason(rt: HostRuntime) -> Result<(), Fail> {
+    expect_all(&rt, rt.alloc(), REPLAY, Mode::Replay)?;
+    expect_all(&rt, rt.alloc(), RUN, Mode::Run)
+}
+
+fn expect(rt: &impl Abort, alloc: Global, text: &[u8], refusal: ScriptRefusal) {
+    match read_script(alloc, text, Mode::Replay) {
+        Ok(_) => assert!(rt; false, "no refusal"),
+        Err(found) => assert_eq!(rt; found, refusal),
+    }
+}
+
+#[test]
+fn the_first_line_at_fault_is_named(rt: HostRuntime) {
+    let at = |line: u32, reason: Reason| ScriptRefusal::Fault { line, reason };
+    let rows: [(&[u8], u32, Reason); 9] = [
+        (b"lead 1 10", 1, Reason::NoNewline),
+        (b"hear 1\n# a comment", 2, Reason::NoNewline),
+        (b"hear 1\n\n  ", 3, Reason::NoNewline),
+        (b"lead\t1 1\n", 1, Reason::BadByte),
+        (b"\t# lead\n", 1, Reason::BadByte),
+        (b"\r\n", 1, Reason::BadByte),
+        (b"# \t\x7f\nhear 1\x7f\n", 2, Reason::BadByte),
+        (b"\n# x\nhear 0\nhear x\n", 3, Reason::OutOfRange),
+        (b"# x\ncell 1 1\nhear 1\ncell 1\n", 4, Reason::Misplaced),
+    ];
+    for (text, line, reason) in rows {
+        expect(&rt, rt.alloc(), text, at(line, reason));
+    }
+}
+
+#[test]
+fn limits_are_tested_behind_the_grammar(rt: HostRuntime) -> Result<(), Fail> {
+    let alloc = rt.alloc();
+    let limit = |what: Limited, count: u64| ScriptRefusal::Limit { what, count };
+    expect(&rt, alloc, b"take 1 8 1\n", limit(Limited::Drivers, 8));
+    expect(&rt, alloc, b"look 65 7\n", limit(Limited::Clients, 65));
+    expect(&rt, alloc, b"tell 1 256\n", limit(Limited::Clients, 256));
+    expect(
+        &rt,
+        alloc,
+        b"take 18446744073709551615 18446744073709551615 1\n",
+        limit(Limited::Drivers, u64::MAX),
+    );
+    let mut text = String::new(alloc);
+    for _ in 0..65536 {
+        text.push_str("tick 1 1\n")?;
+    }
+    assert!(rt; read_script(alloc, text.as_bytes(), Mode::Replay).is_ok());
+    text.push_str("\ntick 8 1\n")?;
+    let events = limit(Limited::Events, 65537);
+    expect(&rt, alloc, text.as_bytes(), events);
+    Ok(())
+}
+
+#[test]
+fn a_script_has_its_lines_and_the_greatest_numbers(rt: HostRuntime) -> Result<(), Fail> {
+    let text = b"cell 5 3\n\n# x\n  take 2 3 4\n";
+    let script = read_script(rt.alloc(), text, Mode::Replay)?;
+    assert_eq!(rt; (script.drivers, script.clients), (3, 2));
+    let lines = script.lines.as_slice();
+    assert_eq!(rt; lines.len(), 2);
+    for line in lines {
+        match line.number {
+            1 => {
+                assert_eq!(rt; line.actor, None);
+                assert_eq!(rt; line.act, Act::Cell { saved: 5, term: 3 });
+            }
+            _ => {
+                assert_eq!(rt; (line.number, line.actor), (4, Some(Actor::Client(2))));
+                let take = Act::Take {
+                    client: 2,
+                    driver: 3,
+                    n: 4,
+                };
+                assert_eq!(rt; line.act, take);
+            }
+        }
+    }
+    Ok(())
+}
