@@ -1,5 +1,5 @@
 -- The entries of a tree as a finite map.
-use Rattle.std.proofs.Common.{◌≡◌, ℕ, cond, List, [], ◌∷◌, Some, refl, sym, ap, ◌∙◌}
+use Rattle.std.proofs.Common.{◌≡◌, ℕ, Bool, true, false, cond, List, [], ◌∷◌, Some, refl, sym, ap, ◌∙◌}
 use Rattle.std.specs.Ordering.{nat_cmp, eq_by_cmp}
 use Rattle.std.specs.Cmp.{nat_cmp_total, eq_by_cmp_equiv}
 use Rattle.std.specs.Map.{lookup}
@@ -21,3 +21,14 @@ insert-from_tree es fs k v answers =
     map.same_map nat_cmp_total map.nat_cmp-IsAntisymmetric _ _ (λ q.
     get-from_tree fs q ∙ answers q ∙ ap (λ b. cond b (Some v) (lookup (is_at (nat_cmp q)) es)) ((eq_by_cmp_equiv nat_cmp_total).symm k q)
     ∙ sym (map.get-insert nat_cmp_total (map.from_entries es) k v q ∙ ap (cond (eq_by_cmp nat_cmp q k) (Some v)) (get-from_tree es q)))
+
+-- of two values that are written at one key the later one stays
+pub insert-insert : {X : Type 0} (m : map.FinMap nat_cmp X) (k : ℕ) (v w : X) → map.insert (map.insert m k v) k w ≡ map.insert m k w
+insert-insert m k v w =
+    map.same_map nat_cmp_total map.nat_cmp-IsAntisymmetric _ _ (λ q.
+      map.get-insert nat_cmp_total (map.insert m k v) k w q ∙ twice (eq_by_cmp nat_cmp q k) (Some w) (map.get (map.insert m k v) q) (Some v) (map.get m q) (map.get-insert nat_cmp_total m k v q)
+        ∙ sym (map.get-insert nat_cmp_total m k w q))
+  where
+    twice : {Y : Type 0} (b : Bool) (x y z u : Y) → y ≡ cond b z u → cond b x y ≡ cond b x u
+    twice true x y z u e = refl
+    twice false x y z u e = e

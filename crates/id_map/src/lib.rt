@@ -1,7 +1,7 @@
 //! Maps by the id of a store or a region, which contracts see as finite maps.
 #![tactic(auto)]
 
-ghost use Rattle.std.specs.Prelude.{◌≡◌, IsSome, OnOk, OnErr};
+ghost use Rattle.std.specs.Prelude.{◌≡◌, IsSome, Some, OnOk, OnErr};
 ghost use Rattle.std.specs.Ordering.{nat_cmp};
 ghost use Rattle.std.specs.Option.{option_copied};
 ghost use Rattle.std.specs.FinMap as map;
@@ -60,8 +60,18 @@ impl<V: Drop> IdMap<V> {
         requires known { IsSome (map.get self.old id) }
         ensures value { self.new ≡ map.insert self.old id value }
     {
+        let _ = self.swap(id, value);
+    }
+
+    /// Gives an id that has a value another one, and gives the old one back. It takes no memory.
+    pub fn swap(&mut self, id: u64, value: V) -> V
+        requires known { IsSome (map.get self.old id) }
+        ensures old { map.get self.old id ≡ Some result }
+        ensures value { self.new ≡ map.insert self.old id value }
+    {
         match self.table.insert(id, value) {
-            Ok(_) => {}
+            Ok(Some(old)) => old,
+            Ok(None) => unreachable!(),
             Err(_) => unreachable!(),
         }
     }

@@ -1,0 +1,5 @@
+pub mod AddLemmas
+pub mod LifeLemmas
+pub mod ListLemmas
+pub mod TableLemmas
+pub mod LimitLemmas

@@ -1,0 +1,22 @@
+use Rattle.std.proofs.Common.{◌≡◌, sym, ap, ◌∙◌, Some}
+use Rattle.std.specs.FinMap as map
+use Rattle.op_control.specs.Table.{active_by}
+use Rattle.op_control.specs.Written.{progressed}
+use Rattle.op_control.proofs.TableLemmas.{active-last, dropped-listed, kept-listed}
+use Rattle.op_control.proofs.table.Operators.dispatch.Goals as goal
+
+pub invariant_of-self : goal.invariant_of-self
+invariant_of-self c =
+    let region = c.args.beat.now.region.id in
+    let found : active_by (map.get c.self.inside.last region) ≡ Some c.in-Some.op.now = sym c.in-Some.ensures in
+    let written = c.write.ensures c.in-Some.op.now (active-last _ _ found) in
+    let op = progressed c.advance-answer.result.0.passed c.advance-answer.result.0.state c.advance-answer.result.0.started c.in-Some.op.now in
+    rw (written, c.unlist.ensures) (dropped-listed c.self.inside.last c.self.inside.busy region op c.self.invariant (sym c.if-not-is_active.ensures))
+
+pub invariant_of-self-else-not-is_active : goal.invariant_of-self-else-not-is_active
+invariant_of-self-else-not-is_active c =
+    let region = c.args.beat.now.region.id in
+    let found : active_by (map.get c.self.inside.last region) ≡ Some c.in-Some.op.now = sym c.in-Some.ensures in
+    let written = c.write.ensures c.in-Some.op.now (active-last _ _ found) in
+    let op = progressed c.advance-answer.result.0.passed c.advance-answer.result.0.state c.advance-answer.result.0.started c.in-Some.op.now in
+    rw written (kept-listed c.self.inside.last c.self.inside.busy region c.in-Some.op.now op c.self.invariant found (sym c.if-not-is_active.ensures))

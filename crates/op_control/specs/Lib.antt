@@ -1,0 +1,7 @@
+pub mod Adding
+pub mod Charging
+pub mod Counting
+pub mod Life
+pub mod Table
+pub mod Turn
+pub mod Written

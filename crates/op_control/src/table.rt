@@ -1,0 +1,445 @@
+// The operators of a term.
+ghost use Rattle.std.specs.Prelude.{◌≡◌, ◌==◌, false, true, ◌↔◌, ◌^◌, ◌<◌, ◌≤◌, [], None, Some, IfErr, IsErr, OnErr, IsOk, OnOk, IsSome, IsTrue, insert, length, option_map, not};
+ghost use Rattle.std.specs.Option.{option_copied};
+ghost use Rattle.std.specs.FinMap as map;
+ghost use Rattle.op_control.specs.Adding.{added, busy_with, created, priority_refusal, refusal_of, room_refusal, same_epoch, RefusedBy};
+ghost use Rattle.op_control.specs.Charging.{after_charges, first_refused};
+ghost use Rattle.op_control.specs.Life.{is_active};
+ghost use Rattle.op_control.specs.Table.{active_at, active_by, canceled, cancel, dispatch_answer, dispatched, joined, op_at, state_of, without, with_op, IsListed};
+ghost use Rattle.op_control.specs.Written.{progressed};
+ghost use Rattle.std.specs.List.{list_any};
+ghost use Rattle.op_control.specs.declared.table.AddFault.TheVariants as faults;
+
+use crate::charging::{charge_all, first_refused};
+use crate::operator::{NewOp, OpState, Operator};
+use crate::turn::{Dispatch, Progress, advance};
+use id_map::IdMap;
+use pd_types::{Epoch, Ids, NoMemory, RegionBeat, Seq, Text};
+use std::alloc::Global;
+use std::marker::Model;
+use std::mem;
+use store_limit::{Limited, Limits};
+use store_table::Stores;
+use thiserror::Error;
+
+/// At most this many regions have an operator at once.
+pub const MOST_OPERATORS: usize = 1024;
+
+/// Why an operator isn't added, in the order of the tests.
+#[derive(Clone, Copy, Debug, PartialEq, Eq, Error)]
+pub enum AddFault {
+    /// The region isn't held.
+    #[error("no-region")]
+    NoRegion,
+    /// The operator was made for another epoch than the held one.
+    #[error("epoch-moved")]
+    EpochMoved { kept: Epoch },
+    /// The region's operator has at least this priority.
+    #[error("busy {priority}")]
+    Busy { priority: u8 },
+    /// A store's limit refuses one of the steps.
+    #[error("limited available {available} needed {needed}")]
+    Limited { available: u64, needed: u64 },
+    /// 1,024 regions have an operator, and none is replaced.
+    #[error("limit")]
+    Limit,
+    #[error("out of memory")]
+    NoMemory,
+}
+
+/// The region has no operator that hasn't ended.
+#[derive(Clone, Copy, Debug, PartialEq, Eq, Error)]
+#[error("absent")]
+pub struct Absent;
+
+/// The operators of a term: the last one of each region, and the regions whose operator hasn't
+/// ended. Contracts see the two as a map and a list.
+#[derive(Drop)]
+pub struct Operators {
+    last: IdMap<Operator>,
+    busy: Ids,
+    alloc: Global,
+}
+
+impl Model for Operators {
+    ghost use Rattle.std.specs.Prelude.{ℕ, List, refl};
+    ghost use Rattle.std.specs.Coded.{code_by, coded×, coded_list, coded_ℕ};
+    ghost use Rattle.std.specs.Ordering.{nat_cmp};
+    ghost use Rattle.std.specs.FinMap as map;
+    ghost use Rattle.op_control.specs.declared.operator.Operator.{Operator};
+    ghost use Rattle.op_control.specs.contracts.operator.Operator as operator;
+    ghost use Rattle.op_control.specs.Table.{Table, IsListed};
+
+    ghost Value = { Table };
+
+    ghost coded = { code_by (map.FinMap nat_cmp Operator × List ℕ)
+        (coded× (map.code coded_ℕ operator.the_row.coded) (coded_list coded_ℕ))
+        (λ table. (table.last, table.busy)) (λ pair. record { last = pair.0; busy = pair.1 }) (λ _. refl) };
+
+    ghost view = { λ o. record { last = o.last; busy = o.busy } };
+
+    ghost invariant = { λ o. IsListed (record { last = o.last; busy = o.busy }) };
+}
+
+fn active(last: &IdMap<Operator>, region: u64) -> Option<&Operator>
+    ensures { option_copied result ≡ active_by (map.get last.now region) }
+{
+    match last.get(region) {
+        Some(op) if op.state.is_active() => Some(op),
+        _ => None,
+    }
+}
+
+// An operator without steps, which stands in a known one's place for a moment.
+fn blank(alloc: Global) -> Operator {
+    Operator {
+        region: 0,
+        epoch: Epoch {
+            conf_ver: 0,
+            version: 0,
+        },
+        kind: Text::of(String::new(alloc)),
+        priority: 0,
+        steps: Seq::new(alloc),
+        passed: 0,
+        state: OpState::Created,
+        created: 0,
+        started: 0,
+    }
+}
+
+// Writes an operator's progress in its place.
+fn write(last: &mut IdMap<Operator>, alloc: Global, region: u64, progress: Progress)
+    requires { IsSome (map.get last.old region) }
+    ensures { (op : Operator) → map.get last.old region ≡ Some op →
+        last.new ≡ map.insert last.old region (progressed progress.passed progress.state progress.started op) }
+{
+    let mut op = last.swap(region, blank(alloc));
+    op.passed = progress.passed;
+    op.state = progress.state;
+    op.started = progress.started;
+    last.set(region, op);
+}
+
+// Takes a region off the list.
+fn unlist(busy: &mut Ids, alloc: Global, region: u64)
+    ensures { busy.new ≡ without region busy.old }
+{
+    let mut ids = mem::replace(busy, Seq::new(alloc)).into_vec();
+    ids.retain(|one| *one != region);
+    *busy = Seq::of(ids);
+}
+
+// How many of the ids stand before the first that is greater.
+fn place_of(busy: &[u64], region: u64) -> usize
+    ensures bound { result ≤ length busy.now }
+    ensures value { insert busy.now result region ≡ joined region busy.now }
+{
+    let mut place = 0;
+    for one in busy {
+        if region < *one {
+            return place;
+        }
+        place += 1;
+    }
+    place
+}
+
+fn same_epoch(one: &Epoch, other: &Epoch) -> bool
+    ensures { result ≡ same_epoch one.now other.now }
+{
+    one.conf_ver == other.conf_ver && one.version == other.version
+}
+
+fn priority_refusal(active: Option<&Operator>, op: &NewOp) -> Option<AddFault>
+    ensures { result ≡ priority_refusal (option_copied active.entry) op.now }
+{
+    match active {
+        Some(active) if op.priority <= active.priority => Some(AddFault::Busy {
+            priority: active.priority,
+        }),
+        _ => None,
+    }
+}
+
+fn room_refusal(
+    limited: Option<Limited>,
+    active: Option<&Operator>,
+    count: usize,
+) -> Option<AddFault>
+    ensures { result ≡ room_refusal limited (option_copied active.entry) count }
+{
+    if let Some(limited) = limited {
+        return Some(AddFault::Limited {
+            available: limited.available,
+            needed: limited.needed,
+        });
+    }
+    if active.is_none() && count >= MOST_OPERATORS {
+        Some(AddFault::Limit)
+    } else {
+        None
+    }
+}
+
+// The operator as it is created.
+fn created(op: NewOp, now: u64) -> Operator
+    ensures { result ≡ created op now }
+{
+    Operator {
+        region: op.region,
+        epoch: op.epoch,
+        kind: op.kind,
+        priority: op.priority,
+        steps: op.steps,
+        passed: 0,
+        state: OpState::Created,
+        created: now,
+        started: 0,
+    }
+}
+
+// Puts a region on the list. Want of memory leaves it.
+fn join(busy: &mut Ids, alloc: Global, region: u64) -> Result<(), NoMemory>
+    ensures ok { OnOk result (busy.new ≡ joined region busy.old) }
+    ensures err { OnErr result (busy.new ≡ busy.old) }
+{
+    let place = place_of(busy.as_slice(), region);
+    let mut ids = mem::replace(busy, Seq::new(alloc)).into_vec();
+    let inserted = ids.insert(place, region).is_ok();
+    *busy = Seq::of(ids);
+    if inserted { Ok(()) } else { Err(NoMemory) }
+}
+
+// Gives a region that has no operator a new one. Want of memory leaves both.
+fn put_new(
+    last: &mut IdMap<Operator>,
+    busy: &mut Ids,
+    alloc: Global,
+    region: u64,
+    op: Operator,
+) -> Result<(), NoMemory>
+    requires { list_any (λ one. one == region) busy.old ≡ false }
+    ensures last { OnOk result (last.new ≡ map.insert last.old region op) }
+    ensures busy { OnOk result (busy.new ≡ joined region busy.old) }
+    ensures last_err { OnErr result (last.new ≡ last.old) }
+    ensures busy_err { OnErr result (busy.new ≡ busy.old) }
+{
+    join(busy, alloc, region)?;
+    match last.put(region, op) {
+        Ok(()) => Ok(()),
+        Err(fault) => {
+            unlist(busy, alloc, region);
+            Err(fault)
+        }
+    }
+}
+
+// Gives a region a new operator, in place of the one that it has. Want of memory leaves both.
+fn store(
+    last: &mut IdMap<Operator>,
+    busy: &mut Ids,
+    alloc: Global,
+    region: u64,
+    op: Operator,
+) -> Result<(), NoMemory>
+    requires listed { IsListed (record { last = last.old; busy = busy.old }) }
+    requires fresh { is_active op.state ≡ true }
+    ensures last { OnOk result (last.new ≡ map.insert last.old region op) }
+    ensures busy { OnOk result (busy.new ≡ busy_with (active_by (map.get last.old region)) region busy.old) }
+    ensures last_err { OnErr result (last.new ≡ last.old) }
+    ensures busy_err { OnErr result (busy.new ≡ busy.old) }
+    ensures listed { IsListed (record { last = last.new; busy = busy.new }) }
+{
+    match active(last, region) {
+        Some(_) => {
+            last.set(region, op);
+            Ok(())
+        }
+        None => {
+            put_new(last, busy, alloc, region, op)?;
+            Ok(())
+        }
+    }
+}
+
+// Charges the steps of a region's last operator.
+fn charge_stored(last: &IdMap<Operator>, region: u64, limits: &mut Limits, now: u64)
+    requires { (op : Operator) → map.get last.now region ≡ Some op → first_refused op.steps limits.old now ≡ None }
+    ensures { (op : Operator) → map.get last.now region ≡ Some op →
+        limits.new ≡ after_charges op.steps limits.old now }
+{
+    if let Some(stored) = last.get(region) {
+        charge_all(stored.steps.as_slice(), limits, now);
+    }
+}
+
+impl From<NoMemory> for AddFault {
+    ghost from_gives = { λ _ fault. fault ≡ faults.NoMemory };
+
+    fn from(_: NoMemory) -> AddFault {
+        AddFault::NoMemory
+    }
+}
+
+impl Operators {
+    /// No operators. It takes no memory.
+    pub fn new(alloc: Global) -> Operators
+        ensures value { result ≡ record { last = map.empty; busy = [] } }
+    {
+        Operators {
+            last: IdMap::new(alloc),
+            busy: Seq::new(alloc),
+            alloc,
+        }
+    }
+
+    /// The answer to an accepted heartbeat of a region at the moment `now`, in milliseconds.
+    /// Finished steps are passed over; then the operator ends as Canceled where conf_ver grew by
+    /// more than the passed steps change it, as Success where no step is left, as Expired or
+    /// Timeout where it is late; else the gate says whether the step is sent. It takes no memory.
+    pub fn dispatch(&mut self, beat: &RegionBeat, stores: &Stores, now: u64) -> Dispatch
+        ensures answer { result ≡ dispatch_answer self.old beat.now stores.now now }
+        ensures value { self.new ≡ dispatched self.old beat.now stores.now now }
+    {
+        let region = beat.region.id;
+        let Some(op) = active(&self.last, region) else {
+            return Dispatch::NoOperator;
+        };
+        let (progress, answer) = advance(op, beat, stores, now);
+        write(&mut self.last, self.alloc, region, progress);
+        if !progress.state.is_active() {
+            unlist(&mut self.busy, self.alloc, region);
+        }
+        answer
+    }
+
+    // The first of the five refusals that applies.
+    fn refusal(
+        &self,
+        op: &NewOp,
+        kept: Option<&RegionBeat>,
+        limits: &Limits,
+        now: u64,
+    ) -> Option<AddFault>
+        requires { length op.now.steps < 2 ^ 32 }
+        ensures { result ≡ refusal_of self.now op.now (option_copied kept.entry) limits.now now }
+    {
+        let Some(beat) = kept else {
+            return Some(AddFault::NoRegion);
+        };
+        if !same_epoch(&op.epoch, &beat.region.epoch) {
+            return Some(AddFault::EpochMoved {
+                kept: beat.region.epoch,
+            });
+        }
+        let other = active(&self.last, op.region);
+        if let Some(fault) = priority_refusal(other, op) {
+            return Some(fault);
+        }
+        let limited = first_refused(op.steps.as_slice(), limits, now);
+        room_refusal(limited, other, self.busy.len())
+    }
+
+    /// Whether the operator, of fewer than 2^32 steps, may be added at the moment `now`, where its
+    /// region is held with the heartbeat `kept`; else the first fault that applies, in the order
+    /// of `AddFault`. It takes no memory.
+    pub fn may_add(
+        &self,
+        op: &NewOp,
+        kept: Option<&RegionBeat>,
+        limits: &Limits,
+        now: u64,
+    ) -> Result<(), AddFault>
+        requires { length op.now.steps < 2 ^ 32 }
+        ensures ok { OnOk result (refusal_of self.now op.now (option_copied kept.entry) limits.now now ≡ None) }
+        ensures refused { IfErr result (λ fault.
+            refusal_of self.now op.now (option_copied kept.entry) limits.now now ≡ Some fault) }
+    {
+        match self.refusal(op, kept, limits, now) {
+            Some(fault) => Err(fault),
+            None => Ok(()),
+        }
+    }
+
+    /// Adds an operator where `may_add` is Ok: it is Created at the moment `now`, takes the place
+    /// of the region's operator of lesser priority, which ends as Replaced, and its steps are
+    /// charged to their stores' limits. A fault leaves operators and limits.
+    pub fn add(
+        &mut self,
+        op: NewOp,
+        kept: Option<&RegionBeat>,
+        limits: &mut Limits,
+        now: u64,
+    ) -> Result<(), AddFault>
+        requires { length op.steps < 2 ^ 32 }
+        ensures accepted { OnOk result (refusal_of self.old op (option_copied kept.entry) limits.old now ≡ None) }
+        ensures refused { IfErr result (RefusedBy (refusal_of self.old op (option_copied kept.entry) limits.old now)) }
+        ensures ok { OnOk result (self.new ≡ added self.old op now) }
+        ensures charged { OnOk result (limits.new ≡ after_charges op.steps limits.old now) }
+        ensures err { OnErr result (self.new ≡ self.old) }
+        ensures limits { OnErr result (limits.new ≡ limits.old) }
+    {
+        if let Some(fault) = self.refusal(&op, kept, limits, now) {
+            return Err(fault);
+        }
+        let region = op.region;
+        let new = created(op, now);
+        store(&mut self.last, &mut self.busy, self.alloc, region, new)?;
+        charge_stored(&self.last, region, limits, now);
+        Ok(())
+    }
+
+    /// Ends the region's operator as Canceled (pd-ctl `operator remove`).
+    pub fn remove(&mut self, region: u64) -> Result<(), Absent>
+        ensures absent { IsErr result ↔ (active_at self.old region ≡ None) }
+        ensures value { self.new ≡ canceled self.old region }
+    {
+        let Some(op) = active(&self.last, region) else {
+            return Err(Absent);
+        };
+        let progress = Progress {
+            passed: op.passed,
+            state: OpState::Canceled,
+            started: op.started,
+        };
+        write(&mut self.last, self.alloc, region, progress);
+        unlist(&mut self.busy, self.alloc, region);
+        Ok(())
+    }
+
+    /// The region left the table: its operator ends as Canceled, where it has one.
+    pub fn gone(&mut self, region: u64)
+        ensures value { self.new ≡ canceled self.old region }
+    {
+        let _ = self.remove(region);
+    }
+
+    /// The state of the region's last operator in this term.
+    pub fn state(&self, region: u64) -> Option<OpState>
+        ensures value { result ≡ state_of self.now region }
+    {
+        match self.last.get(region) {
+            Some(op) => Some(op.state),
+            None => None,
+        }
+    }
+
+    /// The ids of the regions whose operator hasn't ended, rising.
+    pub fn busy(&self) -> &Ids
+        ensures value { result.now ≡ self.now.busy }
+        ensures listed { IsListed self.now }
+    {
+        &self.busy
+    }
+
+    /// The operator that hasn't ended at a place, counted from 0 by rising region.
+    pub fn at(&self, place: usize) -> Option<&Operator>
+        ensures value { option_copied result ≡ op_at self.now place }
+    {
+        match self.busy.as_slice().get(place) {
+            Some(region) => self.last.get(*region),
+            None => None,
+        }
+    }
+}
