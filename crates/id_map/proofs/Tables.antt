@@ -26,8 +26,8 @@ insert-from_tree es fs k v answers =
 pub insert-insert : {X : Type 0} (m : map.FinMap nat_cmp X) (k : ℕ) (v w : X) → map.insert (map.insert m k v) k w ≡ map.insert m k w
 insert-insert m k v w =
     map.same_map nat_cmp_total map.nat_cmp-IsAntisymmetric _ _ (λ q.
-      map.get-insert nat_cmp_total (map.insert m k v) k w q ∙ twice (eq_by_cmp nat_cmp q k) (Some w) (map.get (map.insert m k v) q) (Some v) (map.get m q) (map.get-insert nat_cmp_total m k v q)
-        ∙ sym (map.get-insert nat_cmp_total m k w q))
+    map.get-insert nat_cmp_total (map.insert m k v) k w q ∙ twice (eq_by_cmp nat_cmp q k) (Some w) (map.get (map.insert m k v) q) (Some v) (map.get m q) (map.get-insert nat_cmp_total m k v q)
+    ∙ sym (map.get-insert nat_cmp_total m k w q))
   where
     twice : {Y : Type 0} (b : Bool) (x y z u : Y) → y ≡ cond b z u → cond b x y ≡ cond b x u
     twice true x y z u e = refl
