@@ -100,6 +100,7 @@ pub record AtFault : Type 0 where
   pub line : ℕ
   pub reason : Reason
 
+-- an event in front of the rest
 abbrev pub and_event : ℕ → Event → Result (List Numbered) AtFault → Result (List Numbered) AtFault
 and_event number event (Err fault) = Err fault
 and_event number event (Ok events) = Ok (record { number = number; event = event } ∷ events)

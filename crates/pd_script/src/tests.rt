@@ -108,9 +108,13 @@ const RUN: &str = "\
 4 lead 1
 ";
 
-fn number(outcome: Result<(), ScriptRefusal>) -> u8 {
-    match outcome {
-        Ok(()) => 0,
+// The number of the reason of the first line, 0 where the text is a script.
+fn reason_of(alloc: Global, text: &[u8], mode: Mode) -> u8 {
+    if text.len() > 100 {
+        return 255;
+    }
+    match read_script(alloc, text, mode) {
+        Ok(_) => 0,
         Err(ScriptRefusal::Fault { line: 1, reason }) => reason.number(),
         Err(_) => 255,
     }
@@ -119,10 +123,11 @@ fn number(outcome: Result<(), ScriptRefusal>) -> u8 {
 // Reads each case, a reason and a line, as a text of its own.
 fn expect_all(rt: &impl Abort, alloc: Global, cases: &str, mode: Mode) -> Result<(), Fail> {
     for case in cases.lines() {
-        let (wanted, line) = case.split_at(2);
+        let Some((wanted, line)) = case.split_once(' ') else {
+            return Err(Fail::new("a case without a reason"));
+        };
         let text = format!(in alloc; "{line}\n")?;
-        let outcome = read_script(alloc, text.as_bytes(), mode).map(|_| ());
-        let got = format!(in alloc; "{} ", number(outcome))?;
+        let got = format!(in alloc; "{}", reason_of(alloc, text.as_bytes(), mode))?;
         assert_eq!(rt; got.as_str(), wanted, "{line}");
     }
     Ok(())
@@ -135,6 +140,7 @@ fn lines_are_events_or_at_fault_with_their_reason(rt: HostRuntime) -> Result<(),
 }
 
 fn expect(rt: &impl Abort, alloc: Global, text: &[u8], refusal: ScriptRefusal) {
+    assert!(rt; text.len() <= 16_777_216);
     match read_script(alloc, text, Mode::Replay) {
         Ok(_) => assert!(rt; false, "no refusal"),
         Err(found) => assert_eq!(rt; found, refusal),
@@ -177,6 +183,7 @@ fn limits_are_tested_behind_the_grammar(rt: HostRuntime) -> Result<(), Fail> {
     for _ in 0..65536 {
         text.push_str("tick 1 1\n")?;
     }
+    assert!(rt; text.len() <= 16_777_216);
     assert!(rt; read_script(alloc, text.as_bytes(), Mode::Replay).is_ok());
     text.push_str("\ntick 8 1\n")?;
     let events = limit(Limited::Events, 65537);
