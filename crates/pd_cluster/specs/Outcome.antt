@@ -4,7 +4,8 @@ use Rattle.std.specs.Fmt.{decimal}
 use Rattle.std.specs.Io.KnownBytes.{Appends, Consumes, IsAtEnd, Keeps}
 use Rattle.pd_lines.specs.Output.{WritesPrefix}
 use Rattle.pd_cluster.specs.History.{IsSafe}
-use Rattle.pd_cluster.specs.Replay.{answers_from, answers_text, start, state_after}
+use Rattle.pd_types.specs.declared.oracle.Window.{Window}
+use Rattle.pd_cluster.specs.Replay.{Answer, answers_from, answers_text, start, state_after}
 use Rattle.pd_cluster.specs.Script.{script_of}
 use Rattle.pd_cluster.specs.declared.command.Command.{Command}
 use Rattle.pd_cluster.specs.declared.command.Command.TheVariants.{Replay}
@@ -66,6 +67,28 @@ pub record Answers (command : Command) (status : Status) (left_old left_new held
   pub lawful : IsOutcome command text outcome
   pub written : Leaves outcome status held_old held_new
   pub history : SafeScript (script_of text)
+
+-- answers that are a safe history have this text, and it is written in this way
+pub record PrintsSafely (Writes : List ℕ → Type 0) : Type 0 where
+  pub windows : List Window
+  pub answers : List Answer
+  pub printed : Writes (answers_text answers)
+  pub safe : IsSafe windows answers
+
+-- a text that has no answers, the limit or the line at fault, is written in this way
+abbrev pub PrintsRefusal : (List ℕ → Type 0) → Type 0
+PrintsRefusal Writes = Writes limit_bytes.text ⊎ ((line : ℕ) × Writes (script_outcome (Err line)).text)
+
+-- The headline: what is printed at the end is the text of answers that grant no timestamp twice. Where a fault of the sink or
+-- want of memory cut it, it is a prefix of such a text, or of a text that has no answers.
+abbrev pub GrantsNoneTwice : Status → Option (List ℕ) → Option (List ℕ) → Type 0
+GrantsNoneTwice Done old new = PrintsSafely (Appends old new)
+GrantsNoneTwice WriteFault old new = PrintsSafely (WritesPrefix old new) ⊎ PrintsRefusal (WritesPrefix old new)
+GrantsNoneTwice NoMemory old new = PrintsSafely (WritesPrefix old new) ⊎ PrintsRefusal (WritesPrefix old new)
+GrantsNoneTwice Usage old new = Unit {0}
+GrantsNoneTwice Refused old new = Unit {0}
+GrantsNoneTwice ReadFault old new = Unit {0}
+GrantsNoneTwice Limit old new = Unit {0}
 
 -- how a run of a command may end
 abbrev pub Ends : Command → Status → Option (List ℕ) → Option (List ℕ) → Option (List ℕ) → Option (List ℕ) → Type 0

@@ -2,7 +2,7 @@
 ghost use Rattle.std.specs.Prelude.{◌≡◌, ◌≢◌, ◌≤◌, IfOk, IfNone, IfSome, IsErrOf, length, map, string_bytes};
 ghost use Rattle.std.specs.Io.KnownBytes.{Keeps};
 ghost use Rattle.pd_cluster.specs.Command.{command_of};
-ghost use Rattle.pd_cluster.specs.Outcome.{Ends, Leaves, Outcome, limit_bytes, script_outcome, usage};
+ghost use Rattle.pd_cluster.specs.Outcome.{Ends, GrantsNoneTwice, Leaves, Outcome, limit_bytes, script_outcome, usage};
 ghost use Rattle.pd_cluster.specs.Response.{Gives, HasEndCause, HasFailureCause, IsFinal, Responds};
 ghost use Rattle.pd_cluster.specs.declared.status.Status.TheVariants.{ReadFault, WriteFault};
 ghost use Rattle.pd_cluster.specs.Script.{script_of};
@@ -121,6 +121,9 @@ pub fn pd_top<S: Source, K: Sink>(
 
     // A command: the outcome of the text that was read, whose answers are a safe history.
     ensures answer { IfSome (command_of (map string_bytes words.now)) (λ command. Ends command result (S.left source.old) (S.left source.new) (K.held sink.old) (K.held sink.new)) }
+
+    // The headline: no timestamp is granted twice in what was printed.
+    ensures history { IfSome (command_of (map string_bytes words.now)) (λ _. GrantsNoneTwice result (K.held sink.old) (K.held sink.new)) }
 
     // A fault is answered only where its count rose.
     ensures read { HasEndCause ReadFault (S.faults source.old) (S.faults source.new) result }
