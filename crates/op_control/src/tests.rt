@@ -124,7 +124,42 @@ fn an_operator_of_an_older_epoch_is_refused(rt: HostRuntime) -> Result<(), Fail>
     Ok(())
 }
 
-// A region that wasn't held comes before all; of two refusals the earlier one is named.
+// What adding these steps at a priority answers.
+fn add(
+    alloc: Global,
+    operators: &mut Operators,
+    limits: &mut Limits,
+    beat: &RegionBeat,
+    priority: u8,
+    step: Step,
+) -> Result<(), AddFault> {
+    match operator(alloc, 7, 1, priority, &[step]) {
+        Ok(op) => operators.add(op, Some(beat), limits, 1000),
+        Err(_) => Err(AddFault::NoMemory),
+    }
+}
+
+// A store that may lose no peer refuses an operator that takes one of it.
+#[test]
+fn a_limited_step_is_refused(rt: HostRuntime) -> Result<(), Fail> {
+    let alloc = rt.alloc();
+    let beat = region(alloc, 7, 1, &[])?;
+    let mut limits = limits(alloc)?;
+    limits.set_rate(3, LimitKind::RemovePeer, 0, 1000);
+    let mut operators = Operators::new(alloc);
+    let op = operator(alloc, 7, 1, 2, &[ADD, REMOVE])?;
+    let limited = AddFault::Limited {
+        available: 0,
+        needed: 60_000,
+    };
+    let added = operators.add(op, Some(&beat), &mut limits, 1000);
+    assert_eq!(rt; added, Err(limited));
+    assert_eq!(rt; limits.available(4, LimitKind::AddPeer, 1000), 900_000);
+    Ok(())
+}
+
+// Of two refusals the earlier one is named: a moved epoch before a busy region, and that before a
+// limited store. A greater priority replaces.
 #[test]
 fn the_first_refusal_is_named(rt: HostRuntime) -> Result<(), Fail> {
     let alloc = rt.alloc();
@@ -133,62 +168,18 @@ fn the_first_refusal_is_named(rt: HostRuntime) -> Result<(), Fail> {
     let mut limits = limits(alloc)?;
     limits.set_rate(3, LimitKind::RemovePeer, 0, 1000);
     let mut operators = Operators::new(alloc);
-    let limited = Err(AddFault::Limited {
-        available: 0,
-        needed: 60_000,
-    });
-    assert_eq!(rt;
-        operators.add(
-            operator(alloc, 7, 1, 2, &[ADD, REMOVE])?,
-            Some(&beat),
-            &mut limits,
-            1000
-        ),
-        limited
-    );
-    assert_eq!(rt;
-        operators.add(
-            operator(alloc, 7, 1, 2, &[ADD])?,
-            Some(&beat),
-            &mut limits,
-            1000
-        ),
-        Ok(())
-    );
-    let busy = Err(AddFault::Busy { priority: 2 });
-    assert_eq!(rt;
-        operators.add(
-            operator(alloc, 7, 1, 2, &[REMOVE])?,
-            Some(&beat),
-            &mut limits,
-            1000
-        ),
-        busy
-    );
+    let added = add(alloc, &mut operators, &mut limits, &beat, 2, ADD);
+    assert_eq!(rt; added, Ok(()));
+    let added = add(alloc, &mut operators, &mut limits, &beat, 2, REMOVE);
+    assert_eq!(rt; added, Err(AddFault::Busy { priority: 2 }));
     let kept = Epoch {
         conf_ver: 2,
         version: 1,
     };
-    let refused = Err(AddFault::EpochMoved { kept });
-    assert_eq!(rt;
-        operators.add(
-            operator(alloc, 7, 1, 2, &[REMOVE])?,
-            Some(&moved),
-            &mut limits,
-            1000
-        ),
-        refused
-    );
-    assert_eq!(rt;
-        operators.add(
-            operator(alloc, 7, 1, 3, &[ADD])?,
-            Some(&beat),
-            &mut limits,
-            1000
-        ),
-        Ok(())
-    );
-    assert_eq!(rt; operators.busy().len(), 1);
+    let added = add(alloc, &mut operators, &mut limits, &moved, 2, REMOVE);
+    assert_eq!(rt; added, Err(AddFault::EpochMoved { kept }));
+    let added = add(alloc, &mut operators, &mut limits, &beat, 3, ADD);
+    assert_eq!(rt; added, Ok(()));
     let priority = operators.at(0).map(|op| op.priority);
     assert_eq!(rt; priority, Some(3));
     assert_eq!(rt; limits.available(4, LimitKind::AddPeer, 1000), 780_000);
@@ -229,80 +220,73 @@ fn an_operator_is_sent_and_succeeds(rt: HostRuntime) -> Result<(), Fail> {
     Ok(())
 }
 
-#[test]
-fn an_operator_ends_without_success(rt: HostRuntime) -> Result<(), Fail> {
-    let alloc = rt.alloc();
+// The operators after one was added that adds a peer on store 4.
+fn added(alloc: Global, now: u64) -> Result<Operators, Fail> {
     let beat = region(alloc, 7, 1, &[])?;
-    let astray = region(alloc, 7, 3, &[(20, 4)])?;
-    let live = table(alloc, 1000)?;
-    let later = table(alloc, 601_000)?;
-    let silent = table(alloc, 0)?;
     let mut limits = limits(alloc)?;
     let mut operators = Operators::new(alloc);
+    let op = operator(alloc, 7, 1, 3, &[ADD])?;
+    operators.add(op, Some(&beat), &mut limits, now)?;
+    Ok(operators)
+}
 
-    operators.add(
-        operator(alloc, 7, 1, 3, &[ADD])?,
-        Some(&beat),
-        &mut limits,
-        1000,
-    )?;
-    assert_eq!(rt;
-        operators.dispatch(&astray, &live, 1000),
-        Dispatch::Ended(OpState::Canceled)
-    );
+#[test]
+fn an_operator_whose_region_changed_otherwise_is_canceled(rt: HostRuntime) -> Result<(), Fail> {
+    let alloc = rt.alloc();
+    let mut operators = added(alloc, 1000)?;
+    let astray = region(alloc, 7, 3, &[(20, 4)])?;
+    let live = table(alloc, 1000)?;
+    let answer = operators.dispatch(&astray, &live, 1000);
+    assert_eq!(rt; answer, Dispatch::Ended(OpState::Canceled));
+    assert_eq!(rt; operators.state(7), Some(OpState::Canceled));
+    Ok(())
+}
 
-    operators.add(
-        operator(alloc, 7, 1, 3, &[ADD])?,
-        Some(&beat),
-        &mut limits,
-        100_000,
-    )?;
+#[test]
+fn an_operator_that_never_starts_expires(rt: HostRuntime) -> Result<(), Fail> {
+    let alloc = rt.alloc();
+    let mut operators = added(alloc, 100_000)?;
+    let beat = region(alloc, 7, 1, &[])?;
+    let silent = table(alloc, 0)?;
     let held = Held {
         live: 0,
         voters: 3,
         why: Why::Before,
     };
-    assert_eq!(rt;
-        operators.dispatch(&beat, &silent, 103_000),
-        Dispatch::Wait(held)
-    );
-    assert_eq!(rt;
-        operators.dispatch(&beat, &silent, 103_001),
-        Dispatch::Ended(OpState::Expired)
-    );
+    let answer = operators.dispatch(&beat, &silent, 103_000);
+    assert_eq!(rt; answer, Dispatch::Wait(held));
+    let answer = operators.dispatch(&beat, &silent, 103_001);
+    assert_eq!(rt; answer, Dispatch::Ended(OpState::Expired));
+    Ok(())
+}
 
-    operators.add(
-        operator(alloc, 7, 1, 3, &[ADD])?,
-        Some(&beat),
-        &mut limits,
-        1000,
-    )?;
+#[test]
+fn a_started_operator_times_out(rt: HostRuntime) -> Result<(), Fail> {
+    let alloc = rt.alloc();
+    let mut operators = added(alloc, 1000)?;
+    let beat = region(alloc, 7, 1, &[])?;
+    let live = table(alloc, 1000)?;
+    let later = table(alloc, 601_000)?;
     assert_eq!(rt; operators.dispatch(&beat, &live, 1000), Dispatch::Send(ADD));
-    assert_eq!(rt;
-        operators.dispatch(&beat, &later, 601_000),
-        Dispatch::Send(ADD)
-    );
-    assert_eq!(rt;
-        operators.dispatch(&beat, &later, 601_001),
-        Dispatch::Ended(OpState::Timeout)
-    );
+    let answer = operators.dispatch(&beat, &later, 601_000);
+    assert_eq!(rt; answer, Dispatch::Send(ADD));
+    let answer = operators.dispatch(&beat, &later, 601_001);
+    assert_eq!(rt; answer, Dispatch::Ended(OpState::Timeout));
+    Ok(())
+}
 
-    operators.add(
-        operator(alloc, 7, 1, 3, &[ADD])?,
-        Some(&beat),
-        &mut limits,
-        1000,
-    )?;
+#[test]
+fn an_operator_is_removed(rt: HostRuntime) -> Result<(), Fail> {
+    let mut operators = added(rt.alloc(), 1000)?;
     assert_eq!(rt; operators.remove(7), Ok(()));
     assert_eq!(rt; operators.state(7), Some(OpState::Canceled));
     assert_eq!(rt; operators.remove(7), Err(Absent));
+    Ok(())
+}
 
-    operators.add(
-        operator(alloc, 7, 1, 3, &[ADD])?,
-        Some(&beat),
-        &mut limits,
-        1000,
-    )?;
+#[test]
+fn an_operator_goes_with_its_region(rt: HostRuntime) -> Result<(), Fail> {
+    let mut operators = added(rt.alloc(), 1000)?;
     operators.gone(7);
     assert_eq!(rt; operators.state(7), Some(OpState::Canceled));
     Ok(())
