@@ -1,0 +1,116 @@
+-- What is true of every sound state, of every list of calls and of every answer.
+use Rattle.std.specs.Prelude.{◌≡◌, ◌⊎◌, ◌↔◌, ℕ, ◌+◌, ◌*◌, ◌<◌, ◌≤◌, true, List, [], ◌∷◌, map, slice_index}
+use Rattle.pd_types.specs.declared.oracle.Actor.{Actor}
+use Rattle.pd_types.specs.declared.oracle.Actor.TheVariants.{Driver, Client, Store}
+use Rattle.pd_types.specs.declared.oracle.Batch.{Batch}
+use Rattle.pd_types.specs.declared.oracle.Seen.{Seen}
+use Rattle.pd_types.specs.Batch.{first_of}
+use Rattle.tso_model.specs.declared.entries.Claim.{Claim}
+use Rattle.tso_model.specs.declared.view.Setup.{Setup}
+use Rattle.tso_model.specs.Words.{opening_claim, cell_of, cursor_at, passes}
+use Rattle.tso_model.specs.Ledger.{IsWindowList, IsDrawList, place}
+use Rattle.tso_machine.specs.declared.reply.Kind.{Kind}
+use Rattle.tso_machine.specs.declared.reply.Kind.TheVariants.{Read, Campaign, Save, Probe, Raise, Publish, Resign, Look, Arm, Draw}
+use Rattle.tso_machine.specs.declared.reply.Due.TheVariants.{Draw as DrawDue}
+use Rattle.tso_machine.specs.declared.reply.Reply.{Reply}
+use Rattle.tso_machine.specs.declared.reply.Reply.TheVariants.{Got, Again, OutOfTurn}
+use Rattle.tso_machine.specs.Due.{due_for}
+use Rattle.tso_machine.specs.Whole.{Whole, place_of_client, view_at}
+use Rattle.tso_machine.specs.Steps.{due_of, step_of, draw_of, out_of_turn}
+use Rattle.tso_machine.specs.Rows.{due_at, take_of}
+use Rattle.tso_machine.specs.Notes.{tell_of, hear_of}
+use Rattle.tso_machine.specs.Sound.{IsSound, HasDriver, HasClient}
+use Rattle.tso_machine.specs.Asked.{HasActor, IsAsked}
+
+-- The windows follow one another from the opening one on, and the batches lie inside windows of their own terms and rise
+pub record AreLedger (w : Whole) : Type 0 where
+  pub claims : List Claim
+  pub windows : w.windows ≡ map (λ (c : Claim). c.window) claims
+  pub rise : IsWindowList (opening_claim w.setup.cell) claims
+  pub draws : IsDrawList claims w.batches
+
+-- a cursor stands at most 64 milliseconds past the saved end, however many draws were refused
+abbrev pub AreBounded : Whole → Type 0
+AreBounded w = (d : ℕ) → HasDriver w.setup d → slice_index w.words (cursor_at d) ≤ ((cell_of (slice_index w.words 0)).saved + 64) * 262144
+
+-- the batch is of a later term, or of the seen one and behind the last seen timestamp
+abbrev pub IsAbove : Seen → Batch → Type 0
+IsAbove seen b = (seen.term < b.term) ⊎ ((seen.term ≡ b.term) × (seen.last < first_of b))
+
+-- A batch that a client gets is above all that it had seen, notes included, and is kept among the others
+pub record IsGranted (w : Whole) (c : ℕ) (b : Batch) : Type 0 where
+  pub above : IsAbove (view_at w (place_of_client w c)).seen b
+  pub kept : (draw_of w c).after.batches ≡ place b w.batches
+
+-- so it is with each draw that is due
+abbrev pub DrawsGrant : Whole → Type 0
+DrawsGrant w = (c : ℕ) → HasClient w.setup c → due_at w c ≡ DrawDue → (b : Batch) → (draw_of w c).reply ≡ Got b → IsGranted w c b
+
+-- where a step is refused for its count, the count passed there
+abbrev pub AgainPassed : Whole → Type 0
+AgainPassed w = (actor : Actor) (kind : Kind) (at hi n : ℕ) → (step_of w actor kind).reply ≡ Again at hi n → passes at hi n ≡ true
+
+-- the same of a whole draw
+abbrev pub TakeAgainPassed : Whole → Type 0
+TakeAgainPassed w = (c d m at hi n : ℕ) → (take_of w c d m).reply ≡ Again at hi n → passes at hi n ≡ true
+
+-- who makes steps of a kind
+abbrev pub Makes : Actor → Kind → Type 0
+Makes (Driver d) (Read now) = Unit {0}
+Makes (Driver d) Campaign = Unit {0}
+Makes (Driver d) Save = Unit {0}
+Makes (Driver d) (Probe now) = Unit {0}
+Makes (Driver d) Raise = Unit {0}
+Makes (Driver d) Publish = Unit {0}
+Makes (Driver d) Resign = Unit {0}
+Makes (Driver d) (Look e) = ⊥
+Makes (Driver d) (Arm n) = ⊥
+Makes (Driver d) Draw = ⊥
+Makes (Client c) (Read now) = ⊥
+Makes (Client c) Campaign = ⊥
+Makes (Client c) Save = ⊥
+Makes (Client c) (Probe now) = ⊥
+Makes (Client c) Raise = ⊥
+Makes (Client c) Publish = ⊥
+Makes (Client c) Resign = ⊥
+Makes (Client c) (Look e) = Unit {0}
+Makes (Client c) (Arm n) = Unit {0}
+Makes (Client c) Draw = Unit {0}
+Makes (Store s) kind = ⊥
+
+-- the kind is the actor's next
+abbrev pub IsNext : Whole → Actor → Kind → Type 0
+IsNext w actor kind = (due_for kind ≡ due_of w actor) × Makes actor kind
+
+-- A step is out of turn exactly where its kind isn't the actor's next; it names what is next then, and changes nothing
+pub record RefusesOutOfTurn (w : Whole) : Type 0 where
+  pub refused : (actor : Actor) (kind : Kind) → ¬ IsNext w actor kind → step_of w actor kind ≡ out_of_turn w (due_of w actor)
+  pub made : (actor : Actor) (kind : Kind) → IsNext w actor kind → ¬ ((step_of w actor kind).reply ≡ OutOfTurn (due_of w actor))
+
+-- one atomic step of an actor, or a note
+pub data Call : Type 0 where
+  Step : Actor → Kind → Call
+  Tell : ℕ → ℕ → Call
+  Hear : ℕ → Call
+
+-- the numbers of a call are in range
+abbrev pub IsCall : Setup → Call → Type 0
+IsCall k (Step actor kind) = HasActor k actor × IsAsked k kind
+IsCall k (Tell from to) = HasClient k from × HasClient k to
+IsCall k (Hear c) = HasClient k c
+
+-- the state after a call
+abbrev pub after_call : Whole → Call → Whole
+after_call w (Step actor kind) = (step_of w actor kind).after
+after_call w (Tell from to) = (tell_of w from to).after
+after_call w (Hear c) = (hear_of w c).after
+
+-- the state after a list of calls
+abbrev pub played : Whole → List Call → Whole
+played w [] = w
+played w (call ∷ calls) = played (after_call w call) calls
+
+-- the numbers of all calls are in range
+abbrev pub AreCalls : Setup → List Call → Type 0
+AreCalls k [] = Unit {0}
+AreCalls k (call ∷ calls) = IsCall k call × AreCalls k calls

@@ -1,0 +1,16 @@
+pub mod Asked
+pub mod Cached
+pub mod Due
+pub mod Laws
+pub mod Lists
+pub mod Machine
+pub mod Notes
+pub mod Opened
+pub mod Plan
+pub mod Rows
+pub mod Seat
+pub mod Sound
+pub mod State
+pub mod Steps
+pub mod Text
+pub mod Whole

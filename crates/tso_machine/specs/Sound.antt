@@ -1,0 +1,105 @@
+-- The state invariant of the oracle: that of its words, views and lists, and where each actor stands.
+use Rattle.std.specs.Prelude.{◌≡◌, ◌⊎◌, ℕ, ◌+◌, ◌^◌, ◌<◌, ◌≤◌, true, false, List, length, get_or}
+use Rattle.tso_model.specs.declared.view.View.{View}
+use Rattle.tso_model.specs.declared.view.Setup.{Setup}
+use Rattle.tso_model.specs.Lists.{total, times}
+use Rattle.tso_model.specs.Words.{IsOpen}
+use Rattle.tso_model.specs.declared.step.WordStep.{WordStep}
+use Rattle.tso_model.specs.Steps.{held, May}
+use Rattle.tso_model.specs.Moves.{blank, spent_view}
+use Rattle.tso_model.specs.Ledger.{Recorded}
+use Rattle.tso_machine.specs.declared.turn.Turn.{Turn}
+use Rattle.tso_machine.specs.declared.reply.Due.{Due}
+use Rattle.tso_machine.specs.declared.reply.Due.TheVariants.{Rest, Campaign, Save, Raise, Publish, Arm, Draw}
+use Rattle.tso_machine.specs.Plan.{end_of}
+use Rattle.tso_machine.specs.Whole.{Whole, place_of_client, view_at, turn_at}
+
+-- the view of the driver d
+pub record IsDriver (d : ℕ) (v : View) : Type 0 where
+  pub live : v.spent ≡ false
+  pub driver : v.driver ≡ d
+  pub quota : v.quota ≤ 262144
+
+-- the view of the client c, which knows no cell but the opening one
+pub record IsClient (k : Setup) (c : ℕ) (v : View) : Type 0 where
+  pub live : v.spent ≡ false
+  pub client : v.client ≡ c
+  pub driver : v.driver ≡ 0
+  pub cell : v.cell ≡ k.cell
+  pub quota : v.quota ≡ 262144
+
+-- a term is held with the mark that the cursor was raised to its start
+abbrev pub IsSettled : View → Type 0
+IsSettled v = v.holds ≡ true → v.marked ≡ true
+
+-- a campaign is due: there is a term and a time left
+pub record MayCampaign (next : ℕ) (v : View) : Type 0 where
+  pub settled : IsSettled v
+  pub term : v.cell.term < 262143
+  pub above : v.cell.saved < next
+  pub clock : end_of next < 2 ^ 45
+
+-- a save is due: the end is above the held one, and either this is the first save of the term or the window is marked
+pub record MaySave (next : ℕ) (v : View) : Type 0 where
+  pub holds : v.holds ≡ true
+  pub above : (held v).hi < end_of next
+  pub clock : end_of next < 2 ^ 45
+  pub start : (v.marked ≡ true) ⊎ (((held v).lo ≡ (held v).hi) × ((held v).hi ≤ next))
+
+-- a raise is due: it goes at most to the held end, and the window is marked by then
+pub record MayRaise (next : ℕ) (v : View) : Type 0 where
+  pub holds : v.holds ≡ true
+  pub below : next ≤ (held v).hi
+  pub start : (v.marked ≡ true) ⊎ (IsOpen (held v) × ((held v).lo ≤ next))
+
+-- what a driver's due says of its view
+abbrev pub StandsAt : Due → Turn → View → Type 0
+StandsAt Rest turn v = IsSettled v
+StandsAt Campaign turn v = MayCampaign turn.next v
+StandsAt Save turn v = MaySave turn.next v
+StandsAt Raise turn v = MayRaise turn.next v
+StandsAt Publish turn v = turn.publishes ≡ true → v.marked ≡ true
+StandsAt Arm turn v = Unit {0}
+StandsAt Draw turn v = Unit {0}
+
+-- the driver d with its turn
+pub record DriverFits (d : ℕ) (turn : Turn) (v : View) : Type 0 where
+  pub own : IsDriver d v
+  pub stands : StandsAt turn.due turn v
+
+-- the view at this place may make the step
+pub record MayMake (w : Whole) (id : ℕ) (step : WordStep) : Type 0 where
+  pub inside : id < length w.views
+  pub live : (view_at w id).spent ≡ false
+  pub quota : (view_at w id).quota ≤ 262144
+  pub may : May w.setup step (view_at w id)
+
+-- how often the view at this place waits as a note
+abbrev pub waiting : ℕ → List (List ℕ) → ℕ
+waiting id posts = total (λ (post : List ℕ). times id post) posts
+
+-- a note that waits: a copy of what was seen, and nothing else
+pub record IsNote (k : Setup) (views : List View) (id : ℕ) : Type 0 where
+  pub behind : k.drivers + k.clients < id
+  pub inside : id < length views
+  pub copy : get_or views id spent_view ≡ record (blank k.cell) { seen = (get_or views id spent_view).seen }
+
+-- the numbers of a driver and of a client
+pub record HasDriver (k : Setup) (d : ℕ) : Type 0 where
+  pub pos : 0 < d
+  pub low : d ≤ k.drivers
+
+pub record HasClient (k : Setup) (c : ℕ) : Type 0 where
+  pub pos : 0 < c
+  pub low : c ≤ k.clients
+
+-- The invariant
+pub record IsSound (w : Whole) : Type 0 where
+  pub recorded : Recorded w.setup w.words w.views w.windows w.batches
+  pub wide : w.setup.drivers + w.setup.clients < length w.views
+  pub turns : length w.turns ≡ w.setup.drivers + 1
+  pub posts : length w.posts ≡ w.setup.clients + 1
+  pub drivers : (d : ℕ) → 0 < d → d ≤ w.setup.drivers → DriverFits d (turn_at w d) (view_at w d)
+  pub clients : (c : ℕ) → 0 < c → c ≤ w.setup.clients → IsClient w.setup c (view_at w (place_of_client w c))
+  pub notes : (id : ℕ) → 0 < waiting id w.posts → IsNote w.setup w.views id
+  pub once : (id : ℕ) → waiting id w.posts ≤ 1

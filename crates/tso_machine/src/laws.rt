@@ -1,0 +1,29 @@
+// What the definitions give, by themselves.
+ghost use Rattle.std.specs.Prelude.{◌≡◌, List};
+ghost use Rattle.tso_model.specs.declared.view.Setup.{Setup};
+ghost use Rattle.tso_model.specs.Sound.{IsSetup};
+ghost use Rattle.tso_machine.specs.Whole.{Whole};
+ghost use Rattle.tso_machine.specs.Sound.{IsSound};
+ghost use Rattle.tso_machine.specs.Opened.{opened};
+ghost use Rattle.tso_machine.specs.Laws.{AreLedger, AreBounded, DrawsGrant, AgainPassed, TakeAgainPassed, RefusesOutOfTurn, Call, AreCalls, played};
+
+/// The state is sound after every list of steps and notes of any actors.
+pub fn every_list_of_calls_keeps()
+    ensures sound { (k : Setup) → IsSetup k → (calls : List Call) → AreCalls k calls → IsSound (played (opened k) calls) }
+{}
+
+/// What a sound state says: its windows and batches rise, its cursors are bounded, and a client
+/// gets what is above all that it had seen.
+pub fn every_sound_state_tells()
+    ensures ledger { (w : Whole) → IsSound w → AreLedger w }
+    ensures cursors { (w : Whole) → IsSound w → AreBounded w }
+    ensures grants { (w : Whole) → IsSound w → DrawsGrant w }
+{}
+
+/// What an answer says: a step that was refused for its count passed there, and a step is out of
+/// turn exactly where it isn't its actor's next.
+pub fn every_answer_tells()
+    ensures again { (w : Whole) → AgainPassed w }
+    ensures take { (w : Whole) → TakeAgainPassed w }
+    ensures turn { (w : Whole) → RefusesOutOfTurn w }
+{}
