@@ -1,13 +1,14 @@
+mod agreement;
+
 use crate::{
-    Certificate, Fit, check_certificate, fit, isolation_score, misfit_number, peer_suits,
-    satisfies_all,
+    Certificate, Fit, are_apart, check_certificate, fit, isolation_score, misfit_number,
+    peer_suits, satisfies_all,
 };
 use pd_types::{
     Bytes, Constraint, Constraints, Downs, Epoch, Ids, Label, Labels, Op, Peer, Peers, Region,
     RegionBeat, Role, Rule, RuleRole, Rules, StoreRec, StoreState, Text, Texts,
 };
 use std::alloc::Global;
-use std::process::Abort;
 use std::test::Fail;
 use store_table::Stores;
 
@@ -100,39 +101,59 @@ fn three_stores(alloc: Global) -> Result<Stores, Fail> {
     Ok(stores)
 }
 
-// Two rules of one peer: the first of this role, the second of voters in zone z1.
-fn two_rules(alloc: Global, first: RuleRole) -> Result<Rules, Fail> {
-    let mut rules = Rules::new(alloc);
-    rules.push(rule(alloc, first, 1, Constraints::new(alloc))?)?;
-    let constraints = constraint(alloc, "zone", Op::In, "z1")?;
-    rules.push(rule(alloc, RuleRole::Voter, 1, constraints)?)?;
-    Ok(rules)
+// The answer of `fit`; none where it may not be called.
+fn fitted(
+    alloc: Global,
+    beat: &RegionBeat,
+    rules: &Rules,
+    stores: &Stores,
+) -> Result<Option<Fit>, Fail> {
+    let peers = beat.region.peers.as_slice();
+    if peers.len() > 15 || rules.len() > 64 || !are_apart(peers) {
+        return Ok(None);
+    }
+    Ok(Some(fit(alloc, beat, rules, stores, 20)?))
 }
 
-// The fit of a region of two voters, on the stores 1 and 2.
-fn fit_of_two(rt: &impl Abort, alloc: Global, rules: &Rules, stores: &Stores) -> Result<Fit, Fail> {
-    let beat = region(alloc, &[Role::Voter, Role::Voter])?;
-    assert!(rt; crate::are_apart(beat.region.peers.as_slice()));
-    assert!(rt; beat.region.peers.len() <= 15);
-    assert!(rt; rules.len() <= 64);
-    let answer = fit(alloc, &beat, rules, stores, 20)?;
-    Ok(answer)
-}
-
-// A leader rule of one and a voter rule of one in zone z1: both peers are there, but the second
+// A leader rule of one and a follower rule of one in zone z1: both peers are there, but the second
 // suits neither. The totals agree and there is no fit; the certificate is the second peer.
 #[test]
 fn equal_totals_do_not_fit(rt: HostRuntime) -> Result<(), Fail> {
     let alloc = rt.alloc();
     let stores = three_stores(alloc)?;
-    let rules = two_rules(alloc, RuleRole::Leader)?;
-    match fit_of_two(&rt, alloc, &rules, &stores)? {
-        Fit::Misfit {
-            certificate: Certificate::Peers(ids),
-            ..
-        } => assert_eq!(rt; ids.as_slice(), [12].as_slice()),
-        _ => panic!(rt; "no certificate of peers"),
+    let beat = region(alloc, &[Role::Voter, Role::Voter])?;
+    let mut rules = Rules::new(alloc);
+    rules.push(rule(alloc, RuleRole::Leader, 1, Constraints::new(alloc))?)?;
+    rules.push(rule(
+        alloc,
+        RuleRole::Voter,
+        1,
+        constraint(alloc, "zone", Op::In, "z1")?,
+    )?)?;
+    assert!(rt; beat.region.peers.len() <= 15);
+    assert!(rt; rules.len() <= 64);
+    let Some(answer) = fitted(alloc, &beat, &rules, &stores)? else {
+        panic!(rt; "fit may be called");
+    };
+    match &answer {
+        Fit::Fits { .. } => panic!(rt; "it does not fit"),
+        Fit::Misfit { given, certificate } => {
+            let given = given.as_slice();
+            assert_eq!(rt; given.len(), 2);
+            assert_eq!(rt; given.get(1).copied(), Some(None));
+            assert!(rt; check_certificate(certificate, &beat, &rules, &stores, 20));
+            match certificate {
+                Certificate::Peers(ids) => assert_eq!(rt; ids.as_slice(), [12].as_slice()),
+                Certificate::Totals { .. } => panic!(rt; "the totals agree"),
+            }
+        }
     }
+    assert_eq!(rt; misfit_number(alloc, &beat, &rules, &stores, 20)?, 2);
+    let totals = Certificate::Totals {
+        counts: 2,
+        peers: 2,
+    };
+    assert!(rt; !check_certificate(&totals, &beat, &rules, &stores, 20));
     Ok(())
 }
 
@@ -141,31 +162,27 @@ fn equal_totals_do_not_fit(rt: HostRuntime) -> Result<(), Fail> {
 fn a_path_moves_a_peer(rt: HostRuntime) -> Result<(), Fail> {
     let alloc = rt.alloc();
     let stores = three_stores(alloc)?;
-    let rules = two_rules(alloc, RuleRole::Voter)?;
-    match fit_of_two(&rt, alloc, &rules, &stores)? {
+    let beat = region(alloc, &[Role::Voter, Role::Voter])?;
+    let mut rules = Rules::new(alloc);
+    rules.push(rule(alloc, RuleRole::Voter, 1, Constraints::new(alloc))?)?;
+    rules.push(rule(
+        alloc,
+        RuleRole::Voter,
+        1,
+        constraint(alloc, "zone", Op::In, "z1")?,
+    )?)?;
+    assert!(rt; beat.region.peers.len() <= 15);
+    assert!(rt; rules.len() <= 64);
+    let Some(answer) = fitted(alloc, &beat, &rules, &stores)? else {
+        panic!(rt; "fit may be called");
+    };
+    match answer {
         Fit::Fits { given } => {
             assert_eq!(rt; given.as_slice(), [Some(1), Some(0)].as_slice());
         }
         Fit::Misfit { .. } => panic!(rt; "it fits"),
     }
-    Ok(())
-}
-
-// The misfit number of those two regions, and certificates that hold and don't.
-#[test]
-fn numbers_and_certificates_of_two_peers(rt: HostRuntime) -> Result<(), Fail> {
-    let alloc = rt.alloc();
-    let stores = three_stores(alloc)?;
-    let beat = region(alloc, &[Role::Voter, Role::Voter])?;
-    assert!(rt; beat.region.peers.len() <= 15);
-    let leader = two_rules(alloc, RuleRole::Leader)?;
-    assert!(rt; leader.len() <= 64);
-    assert_eq!(rt; misfit_number(alloc, &beat, &leader, &stores, 20)?, 2);
-    let totals = Certificate::Totals {
-        counts: 2,
-        peers: 2,
-    };
-    assert!(rt; !check_certificate(&totals, &beat, &leader, &stores, 20));
+    assert_eq!(rt; misfit_number(alloc, &beat, &rules, &stores, 20)?, 0);
     Ok(())
 }
 
