@@ -5,8 +5,6 @@ mod charging;
 mod laws;
 mod operator;
 mod table;
-#[cfg(test)]
-mod tests;
 mod turn;
 
 pub use laws::operators_live_by_the_table;
