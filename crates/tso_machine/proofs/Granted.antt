@@ -1,12 +1,9 @@
 -- What every sound state says of its windows, batches and cursors, and of a batch that a client gets.
-use Rattle.std.proofs.Common.{◌≡◌, ℕ, ◌+◌, ◌-◌, ◌*◌, ◌/◌, ◌%◌, ◌<◌, ◌≤◌, Bool, true, false, cond, List, ◌∷◌, refl, sym, ap, subst, ◌∙◌, inl, inr, ⊎_elim, arith}
-use Rattle.std.specs.Prelude.{◌⊎◌, slice_index}
+use Rattle.std.proofs.Common.{◌≡◌, ℕ, ◌<◌, Bool, true, false, cond, List, ◌∷◌, refl, sym, ap, subst, ◌∙◌, inl, inr, ⊎_elim, arith}
 use Rattle.pd_types.specs.declared.oracle.Batch.{Batch}
-use Rattle.pd_types.specs.Batch.{first_of}
-use Rattle.tso_model.specs.declared.view.View.{View}
-use Rattle.tso_model.specs.Words.{opening_claim, cell_of, cursor_at, passes}
+use Rattle.tso_model.specs.Words.{opening_claim, passes}
 use Rattle.tso_model.specs.Moves.{spent_view}
-use Rattle.tso_model.specs.Steps.{hand, batch_of, HasHand}
+use Rattle.tso_model.specs.Steps.{hand, batch_of}
 use Rattle.tso_model.specs.Sound.{IsUnseen}
 use Rattle.tso_model.specs.Ledger.{IsDrawList, back, place}
 use Rattle.tso_model.specs.declared.step.WordStep.TheVariants.{AddArmed}
@@ -16,9 +13,8 @@ use Rattle.tso_machine.specs.declared.reply.Reply.{Reply}
 use Rattle.tso_machine.specs.declared.reply.Reply.TheVariants.{Got, Again}
 use Rattle.tso_machine.specs.declared.reply.Due.TheVariants.{Draw}
 use Rattle.tso_machine.specs.Whole.{Whole, place_of_client, view_at, found_by}
-use Rattle.tso_machine.specs.Steps.{draw_of}
 use Rattle.tso_machine.specs.Rows.{due_at}
-use Rattle.tso_machine.specs.Sound.{IsSound, HasDriver, HasClient}
+use Rattle.tso_machine.specs.Sound.{IsSound, HasClient}
 use Rattle.tso_machine.specs.Laws.{AreLedger, AreBounded, IsAbove, IsGranted, DrawsGrant}
 use Rattle.tso_machine.proofs.Dues.{draws}
 use Rattle.tso_machine.proofs.Drawn.{own, inside}

@@ -4,6 +4,7 @@ pub mod Driven
 pub mod Dues
 pub mod Fair
 pub mod Granted
+pub mod Grown
 pub mod Kept
 pub mod Leaving
 pub mod Made

@@ -1,5 +1,5 @@
 -- Every call keeps the state sound and the setup.
-use Rattle.std.proofs.Common.{◌≡◌, ℕ, ◌<◌, ◌≤◌, Bool, true, false, cond, List, [], ◌∷◌, refl, sym, ap, subst, ◌∙◌, arith}
+use Rattle.std.proofs.Common.{◌≡◌, ℕ, ◌<◌, ◌≤◌, Bool, true, false, cond, List, [], ◌∷◌, refl, sym, subst, arith}
 use Rattle.pd_types.specs.declared.oracle.Actor.{Actor}
 use Rattle.pd_types.specs.declared.oracle.Actor.TheVariants.{Driver, Client, Store}
 use Rattle.tso_model.specs.declared.view.Setup.{Setup}
@@ -12,11 +12,11 @@ use Rattle.tso_machine.specs.declared.reply.Kind.{Kind}
 use Rattle.tso_machine.specs.declared.reply.Kind.TheVariants.{Read, Campaign, Save, Probe, Raise, Publish, Resign, Look, Arm, Draw}
 use Rattle.tso_machine.specs.declared.reply.Reply.TheVariants.{Told, Resigned, NotLeading}
 use Rattle.tso_machine.specs.Due.{same_due, due_for, at_rest}
-use Rattle.tso_machine.specs.Whole.{Whole, place_of_client, view_at, turn_at, post_at, found_by, made}
+use Rattle.tso_machine.specs.Whole.{Whole, view_at, turn_at, post_at, found_by, made}
 use Rattle.tso_machine.specs.Steps.{Stepped, out_of_turn, decided, probe_decides, step_of, driver_step, client_step}
 use Rattle.tso_machine.specs.Rows.{due_at}
 use Rattle.tso_machine.specs.Notes.{tell_of, hear_of, heard_from, note_left}
-use Rattle.tso_machine.specs.Sound.{IsSound, HasDriver, HasClient}
+use Rattle.tso_machine.specs.Sound.{IsSound, HasClient}
 use Rattle.tso_machine.specs.Asked.{HasActor, IsAsked}
 use Rattle.tso_machine.specs.Opened.{opened}
 use Rattle.tso_machine.specs.Laws.{Call, Step, Tell, Hear, IsCall, after_call, played, AreCalls}

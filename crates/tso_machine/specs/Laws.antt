@@ -1,5 +1,5 @@
 -- What is true of every sound state, of every list of calls and of every answer.
-use Rattle.std.specs.Prelude.{◌≡◌, ◌⊎◌, ◌↔◌, ℕ, ◌+◌, ◌*◌, ◌<◌, ◌≤◌, true, List, [], ◌∷◌, map, slice_index}
+use Rattle.std.specs.Prelude.{◌≡◌, ◌⊎◌, ℕ, ◌+◌, ◌*◌, ◌<◌, ◌≤◌, true, List, [], ◌∷◌, map, slice_index}
 use Rattle.pd_types.specs.declared.oracle.Actor.{Actor}
 use Rattle.pd_types.specs.declared.oracle.Actor.TheVariants.{Driver, Client, Store}
 use Rattle.pd_types.specs.declared.oracle.Batch.{Batch}
@@ -17,10 +17,10 @@ use Rattle.tso_machine.specs.declared.reply.Reply.TheVariants.{Got, Again, OutOf
 use Rattle.tso_machine.specs.Due.{due_for}
 use Rattle.tso_machine.specs.Whole.{Whole, place_of_client, view_at}
 use Rattle.tso_machine.specs.Steps.{due_of, step_of, draw_of, out_of_turn}
-use Rattle.tso_machine.specs.Rows.{due_at, take_of}
+use Rattle.tso_machine.specs.Rows.{due_at, lead_of, tick_of, resigned_of, take_of}
 use Rattle.tso_machine.specs.Notes.{tell_of, hear_of}
-use Rattle.tso_machine.specs.Sound.{IsSound, HasDriver, HasClient}
-use Rattle.tso_machine.specs.Asked.{HasActor, IsAsked}
+use Rattle.tso_machine.specs.Sound.{HasDriver, HasClient}
+use Rattle.tso_machine.specs.Asked.{HasActor, IsAsked, IsCount}
 
 -- The windows follow one another from the opening one on, and the batches lie inside windows of their own terms and rise
 pub record AreLedger (w : Whole) : Type 0 where
@@ -86,6 +86,25 @@ IsNext w actor kind = (due_for kind ≡ due_of w actor) × Makes actor kind
 pub record RefusesOutOfTurn (w : Whole) : Type 0 where
   pub refused : (actor : Actor) (kind : Kind) → ¬ IsNext w actor kind → step_of w actor kind ≡ out_of_turn w (due_of w actor)
   pub made : (actor : Actor) (kind : Kind) → IsNext w actor kind → ¬ ((step_of w actor kind).reply ≡ OutOfTurn (due_of w actor))
+
+-- what an answer adds to the batches: the granted batch, behind all of its term and of lower terms, or nothing
+abbrev pub Adds : Reply → List Batch → List Batch → Type 0
+Adds (Got b) old new = new ≡ place b old
+Adds _ old new = new ≡ old
+
+-- each call adds to the batches exactly what it answers
+pub record BatchesGrow (w : Whole) : Type 0 where
+  pub step : (actor : Actor) (kind : Kind) → Adds (step_of w actor kind).reply w.batches (step_of w actor kind).after.batches
+  pub lead : (d now : ℕ) → Adds (lead_of w d now).reply w.batches (lead_of w d now).after.batches
+  pub tick : (d now : ℕ) → Adds (tick_of w d now).reply w.batches (tick_of w d now).after.batches
+  pub resign : (d : ℕ) → Adds (resigned_of w d).reply w.batches (resigned_of w d).after.batches
+  pub take : (c d n : ℕ) → Adds (take_of w c d n).reply w.batches (take_of w c d n).after.batches
+  pub tell : (from to : ℕ) → Adds (tell_of w from to).reply w.batches (tell_of w from to).after.batches
+  pub hear : (c : ℕ) → Adds (hear_of w c).reply w.batches (hear_of w c).after.batches
+
+-- a batch that a whole draw gets is above all that the client had seen before it
+abbrev pub TakesGrant : Whole → Type 0
+TakesGrant w = (c d n : ℕ) → HasClient w.setup c → HasDriver w.setup d → IsCount n → (b : Batch) → (take_of w c d n).reply ≡ Got b → IsAbove (view_at w (place_of_client w c)).seen b
 
 -- one atomic step of an actor, or a note
 pub data Call : Type 0 where

@@ -22,9 +22,11 @@ lead_saved d r =
     if same_due (turn_at r.after d).due Raise then won d (finished d (raise_of r.after d).after)
     else record { reply = r.reply; after = finished d r.after }
 
+-- a campaign that claims a term is followed by its save
 abbrev pub lead_claimed : ℕ → Stepped → Stepped
 lead_claimed d r = if same_due (turn_at r.after d).due Save then lead_saved d (save_of r.after d) else r
 
+-- a read that finds a term and a time left is followed by the campaign
 abbrev pub lead_read : ℕ → Stepped → Stepped
 lead_read d r = if same_due (turn_at r.after d).due Campaign then lead_claimed d (campaign_of r.after d) else r
 
@@ -42,6 +44,7 @@ tick_saved d next r =
     if same_due (turn_at r.after d).due Raise then moved d next (finished d (raise_of r.after d).after)
     else record { reply = r.reply; after = finished d r.after }
 
+-- a probe that asks for a save is followed by it, and one that asks for a raise by that
 abbrev pub tick_probed : ℕ → Stepped → Stepped
 tick_probed d r =
     if same_due (turn_at r.after d).due Save then tick_saved d (turn_at r.after d).next (save_of r.after d)
@@ -60,9 +63,11 @@ resigned_of w d = if same_due (turn_at w d).due Rest then resign_of w d else out
 abbrev pub due_at : Whole → ℕ → Due
 due_at w c = client_due (view_at w (place_of_client w c))
 
+-- an arm whose count fits is followed by the draw
 abbrev pub take_armed : ℕ → Stepped → Stepped
 take_armed c r = if same_due (due_at r.after c) Draw then draw_of r.after c else r
 
+-- a look that brings a limit into hand is followed by the arm
 abbrev pub take_looked : ℕ → ℕ → Stepped → Stepped
 take_looked c n r = if same_due (due_at r.after c) Arm then take_armed c (arm_of r.after c n) else r
 

@@ -84,11 +84,12 @@ pub record IsNote (k : Setup) (views : List View) (id : ℕ) : Type 0 where
   pub inside : id < length views
   pub copy : get_or views id spent_view ≡ record (blank k.cell) { seen = (get_or views id spent_view).seen }
 
--- the numbers of a driver and of a client
+-- the driver is one of the oracle's
 pub record HasDriver (k : Setup) (d : ℕ) : Type 0 where
   pub pos : 0 < d
   pub low : d ≤ k.drivers
 
+-- the client is one of the oracle's
 pub record HasClient (k : Setup) (c : ℕ) : Type 0 where
   pub pos : 0 < c
   pub low : c ≤ k.clients

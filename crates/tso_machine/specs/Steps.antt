@@ -111,6 +111,7 @@ abbrev pub goes_to : ℕ → ℕ → Option ℕ → Decided
 goes_to hi cursor None = record { reply = Idle; turn = at_rest }
 goes_to hi cursor (Some next) = moves_to hi cursor next
 
+-- what a tick does over this held end, at this moment, with this cursor
 abbrev pub probe_decides : ℕ → ℕ → ℕ → Decided
 probe_decides hi now cursor = goes_to hi cursor (tick_next cursor hi now)
 

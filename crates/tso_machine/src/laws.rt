@@ -5,7 +5,7 @@ ghost use Rattle.tso_model.specs.Sound.{IsSetup};
 ghost use Rattle.tso_machine.specs.Whole.{Whole};
 ghost use Rattle.tso_machine.specs.Sound.{IsSound};
 ghost use Rattle.tso_machine.specs.Opened.{opened};
-ghost use Rattle.tso_machine.specs.Laws.{AreLedger, AreBounded, DrawsGrant, AgainPassed, TakeAgainPassed, RefusesOutOfTurn, Call, AreCalls, played};
+ghost use Rattle.tso_machine.specs.Laws.{AreLedger, AreBounded, DrawsGrant, AgainPassed, TakeAgainPassed, RefusesOutOfTurn, BatchesGrow, TakesGrant, Call, AreCalls, played};
 
 /// The state is sound after every list of steps and notes of any actors.
 pub fn every_list_of_calls_keeps()
@@ -18,12 +18,14 @@ pub fn every_sound_state_tells()
     ensures ledger { (w : Whole) → IsSound w → AreLedger w }
     ensures cursors { (w : Whole) → IsSound w → AreBounded w }
     ensures grants { (w : Whole) → IsSound w → DrawsGrant w }
+    ensures takes { (w : Whole) → IsSound w → TakesGrant w }
 {}
 
-/// What an answer says: a step that was refused for its count passed there, and a step is out of
-/// turn exactly where it isn't its actor's next.
+/// What an answer says: a step that was refused for its count passed there, a step is out of turn
+/// exactly where it isn't its actor's next, and a call adds to the batches exactly what it answers.
 pub fn every_answer_tells()
     ensures again { (w : Whole) → AgainPassed w }
     ensures take { (w : Whole) → TakeAgainPassed w }
     ensures turn { (w : Whole) → RefusesOutOfTurn w }
+    ensures batches { (w : Whole) → BatchesGrow w }
 {}
