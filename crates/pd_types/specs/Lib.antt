@@ -1,3 +1,4 @@
 pub mod Batch
+pub mod BeatCheck
 pub mod StepText
 pub mod Timestamp

@@ -8,6 +8,7 @@ use Rattle.pd_types.specs.declared.step.Step.TheVariants.{AddLearner, PromoteLea
 abbrev pub place_text : ℕ → ℕ → List ℕ
 place_text peer store = codes " peer " ++ decimal peer ++ codes " store " ++ decimal store
 
+-- the name of the step, then its peer and store
 abbrev pub step_text : Step → List ℕ
 step_text (AddLearner peer store) = codes "add-learner" ++ place_text peer store
 step_text (PromoteLearner peer store) = codes "promote-learner" ++ place_text peer store

@@ -1,16 +1,21 @@
 //! Records of the placement driver: timestamps, regions, stores, placement rules, steps, and lists of them.
 #![tactic(auto)]
 
+mod beat;
 mod lists;
 mod memory;
 mod oracle;
 mod region;
+mod request;
 mod rule;
 mod stamp;
 mod step;
 mod store;
+#[cfg(test)]
+mod tests;
 mod text;
 
+pub use beat::{BeatFault, MAX_KEY, MAX_PEERS, check_beat};
 pub use lists::{
     Batches, Bytes, Constraints, Downs, Duplicate, Ids, Keys, Labels, Peers, Rules, Seq, Steps,
     Texts, Windows,
@@ -18,6 +23,7 @@ pub use lists::{
 pub use memory::NoMemory;
 pub use oracle::{Actor, Batch, CellWord, Seen, Window};
 pub use region::{DownPeer, Epoch, Peer, Region, RegionBeat, Role};
+pub use request::Request;
 pub use rule::{Constraint, Op, Rule, RuleRole};
 pub use stamp::{LOGICAL, pack, unpack};
 pub use step::Step;

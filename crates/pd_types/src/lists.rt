@@ -69,18 +69,21 @@ impl<T> Seq<T> {
         self.items
     }
 
+    /// The items, in their order.
     pub fn as_slice(&self) -> &[T]
         ensures value { result.now ≡ self.now }
     {
         &self.items
     }
 
+    /// How many items it has.
     pub fn len(&self) -> usize
         ensures value { result ≡ length self.now }
     {
         self.items.len()
     }
 
+    /// Whether it has no item.
     pub fn is_empty(&self) -> bool
         ensures empty { IsTrue result ↔ (self.now ≡ []) }
     {

@@ -34,12 +34,14 @@ impl Text {
         self.text
     }
 
+    /// The text as std's.
     pub fn as_str(&self) -> &str
         ensures value { result.now ≡ self.now }
     {
         self.text.as_str()
     }
 
+    /// The bytes of the text in UTF-8.
     pub fn as_bytes(&self) -> &[u8]
         ensures value { result.now ≡ self.now }
     {

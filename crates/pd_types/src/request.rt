@@ -1,0 +1,68 @@
+use crate::{Duplicate, Labels, NoMemory, RegionBeat, Text};
+use std::alloc::Global;
+
+/// What a driver's cluster is asked to do. Moments are in milliseconds since the epoch.
+#[derive(Debug, Drop, PartialEq)]
+pub enum Request {
+    /// Puts a store, with a heartbeat of it (pdpb `PutStore`).
+    Hello {
+        store: u64,
+        moment: u64,
+        address: Text,
+        labels: Labels,
+    },
+    /// A store heartbeat (pdpb `StoreHeartbeat`).
+    Alive {
+        store: u64,
+        moment: u64,
+    },
+    /// A region heartbeat that a store sends (pdpb `RegionHeartbeat`).
+    Beat {
+        store: u64,
+        moment: u64,
+        beat: RegionBeat,
+    },
+    /// The driver won this term.
+    Term {
+        term: u64,
+        moment: u64,
+    },
+    /// The driver gave its term up or lost it.
+    Retire,
+}
+
+impl Duplicate for Request {
+    fn copy(&self, alloc: Global) -> Result<Request, NoMemory> {
+        match self {
+            Request::Hello {
+                store,
+                moment,
+                address,
+                labels,
+            } => Ok(Request::Hello {
+                store: *store,
+                moment: *moment,
+                address: address.copy(alloc)?,
+                labels: labels.copy(alloc)?,
+            }),
+            Request::Alive { store, moment } => Ok(Request::Alive {
+                store: *store,
+                moment: *moment,
+            }),
+            Request::Beat {
+                store,
+                moment,
+                beat,
+            } => Ok(Request::Beat {
+                store: *store,
+                moment: *moment,
+                beat: beat.copy(alloc)?,
+            }),
+            Request::Term { term, moment } => Ok(Request::Term {
+                term: *term,
+                moment: *moment,
+            }),
+            Request::Retire => Ok(Request::Retire),
+        }
+    }
+}
