@@ -1,16 +1,22 @@
 -- What the printed answers of the oracle keep, whatever the script is: no timestamp is granted twice.
-use Rattle.std.specs.Prelude.{nat_eq, if◌then◌else◌, ◌≡◌, ℕ, List, [], ◌∷◌, true}
+use Rattle.std.specs.Prelude.{nat_eq, if◌then◌else◌, ◌≡◌, ◌⊎◌, ◌<◌, ◌≤◌, ℕ, List, [], ◌∷◌, map, All, AllPairs, Contains}
 use Rattle.pd_types.specs.declared.oracle.Batch.{Batch}
+use Rattle.pd_types.specs.declared.oracle.CellWord.{CellWord}
 use Rattle.pd_types.specs.declared.oracle.Seen.{Seen}
 use Rattle.pd_types.specs.declared.oracle.Window.{Window}
-use Rattle.tso_core.specs.Draws.{LiesInOne, Rises, ordered}
-use Rattle.tso_core.specs.Plan.{passes}
-use Rattle.tso_core.specs.Seen.{IsAbove, nothing_seen, seen_of}
+use Rattle.pd_types.specs.Batch.{first_of}
+use Rattle.pd_script.specs.declared.act.Act.{Act}
+use Rattle.pd_script.specs.declared.act.Act.TheVariants.{Cell, Lead, Tick, Resign, Take, Tell, Hear, Read, Campaign, Save, Raise, Publish, Probe, Look, Arm, Draw}
+use Rattle.pd_script.specs.declared.act.Line.{Line}
+use Rattle.tso_model.specs.declared.entries.Claim.{Claim}
+use Rattle.tso_model.specs.Words.{Inside, opening_claim}
+use Rattle.tso_model.specs.Ledger.{IsWindowList}
+use Rattle.tso_model.specs.Moves.{nothing_seen}
+use Rattle.tso_core.specs.Laws.{AreBounded, IsFair, learned}
+use Rattle.tso_core.specs.Whole.{Whole}
 use Rattle.tso_core.specs.declared.reply.Reply.{Reply}
-use Rattle.tso_core.specs.declared.reply.Reply.TheVariants.{Got, Again}
-use Rattle.pd_cluster.specs.Replay.{Answer}
-use Rattle.pd_cluster.specs.declared.script.Act.{Act}
-use Rattle.pd_cluster.specs.declared.script.Act.TheVariants.{Lead, Take}
+use Rattle.tso_core.specs.declared.reply.Reply.TheVariants.{Got}
+use Rattle.pd_cluster.specs.Replay.{Answer, act_step}
 
 -- the batch of an answer, in front of others
 abbrev pub and_batch : Reply → List Batch → List Batch
@@ -22,49 +28,65 @@ abbrev pub batches_of : List Answer → List Batch
 batches_of [] = []
 batches_of (answer ∷ answers) = and_batch answer.reply (batches_of answers)
 
--- each batch lies inside a window of its own term and driver
-abbrev pub AllInside : List Window → List Batch → Type 0
-AllInside windows [] = Unit {0}
-AllInside windows (b ∷ bs) = LiesInOne windows b × AllInside windows bs
+-- one batch lies below the other: its term isn't later, and its last timestamp is below the other's first
+pub record IsBelow (a b : Batch) : Type 0 where
+  pub term : a.term ≤ b.term
+  pub rises : a.last < first_of b
 
--- an answer `again` passed the end of its window or of the logical part, by its own numbers
-abbrev pub PassedWhereAgain : Reply → Type 0
-PassedWhereAgain (Again at hi n) = passes at hi n ≡ true
-PassedWhereAgain _ = Unit {0}
+-- one of the two lies below the other
+abbrev pub AreApart : Batch → Batch → Type 0
+AreApart a b = IsBelow a b ⊎ IsBelow b a
 
--- each answer `again` did
-abbrev pub EachAgainPassed : List Answer → Type 0
-EachAgainPassed [] = Unit {0}
-EachAgainPassed (answer ∷ answers) = PassedWhereAgain answer.reply × EachAgainPassed answers
+-- the windows of all terms from some opening cell on, each at or behind the end of the one before
+pub record AreWindows (windows : List Window) : Type 0 where
+  pub opening : CellWord
+  pub claims : List Claim
+  pub are : windows ≡ map (λ (c : Claim). c.window) claims
+  pub rise : IsWindowList (opening_claim opening) claims
 
--- what each client has seen, once this client has seen this
-abbrev pub seen_at : (ℕ → Seen) → ℕ → Seen → ℕ → Seen
-seen_at seens client seen other = if nat_eq client other then seen else seens other
+-- the batch lies inside one of the windows, of its own term and driver
+pub record LiesInOne (windows : List Window) (batch : Batch) : Type 0 where
+  pub window : Window
+  pub one : Contains windows window
+  pub inside : Inside window batch
 
--- the client of a line; a driver's line has none
-abbrev pub client_of : Act → ℕ
-client_of (Lead driver now) = 0
-client_of (Take client driver n) = client
+-- the client of a line; a driver's line has none, which is 0
+abbrev pub caller_of : Act → ℕ
+caller_of (Cell saved term) = 0
+caller_of (Lead driver now) = 0
+caller_of (Tick driver now) = 0
+caller_of (Resign driver) = 0
+caller_of (Take client driver n) = client
+caller_of (Tell client to) = client
+caller_of (Hear client) = client
+caller_of (Read driver now) = 0
+caller_of (Campaign driver) = 0
+caller_of (Save driver) = 0
+caller_of (Raise driver) = 0
+caller_of (Publish driver) = 0
+caller_of (Probe driver now) = 0
+caller_of (Look client driver) = client
+caller_of (Arm client n) = client
+caller_of (Draw client) = client
 
--- what each client has seen after an answer to this client
+-- what each client has seen after an answer to this one: the pair of its batch, or the greater of its own and a note's
 abbrev pub seens_after : (ℕ → Seen) → ℕ → Reply → ℕ → Seen
-seens_after seens client (Got batch) = seen_at seens client (seen_of batch)
-seens_after seens client _ = seens
+seens_after seens caller reply client = if nat_eq caller client then learned reply (seens client) else seens client
 
--- the batch of an answer is above all that its client had seen
-abbrev pub AboveSeen : Seen → Reply → Type 0
-AboveSeen seen (Got batch) = IsAbove seen batch
-AboveSeen seen _ = Unit {0}
+-- each batch is above all that its caller had seen before it, and each `again` passed the end of its window or of the logical part
+abbrev pub AreFair : (ℕ → Seen) → List Answer → Type 0
+AreFair seens [] = Unit {0}
+AreFair seens (answer ∷ answers) = IsFair answer.reply (seens (caller_of answer.line.act)) × AreFair (seens_after seens (caller_of answer.line.act) answer.reply) answers
 
--- each batch is above all that its caller had seen before it
-abbrev pub Exceed : (ℕ → Seen) → List Answer → Type 0
-Exceed seens [] = Unit {0}
-Exceed seens (answer ∷ answers) = AboveSeen (seens (client_of answer.line.act)) answer.reply × Exceed (seens_after seens (client_of answer.line.act) answer.reply) answers
-
--- The batches, ordered by term and first timestamp, are disjoint and rise, each inside a window of its own term; each caller's
--- batches exceed all it had seen; each `again` passed. All of this holds of the first answers too, wherever a fault cut the text.
+-- The batches are disjoint and rise by term and timestamp, each inside a window of its own term; each caller's batches exceed
+-- all it had seen, notes included; each `again` passed. All of this holds of the first answers too, wherever a fault cut the text.
 pub record IsSafe (windows : List Window) (answers : List Answer) : Type 0 where
-  pub rises : Rises (ordered (batches_of answers))
-  pub inside : AllInside windows (batches_of answers)
-  pub exceed : Exceed (λ _. nothing_seen) answers
-  pub again : EachAgainPassed answers
+  pub rises : AllPairs AreApart (batches_of answers)
+  pub follow : AreWindows windows
+  pub inside : All (LiesInOne windows) (batches_of answers)
+  pub fair : AreFair (λ _. nothing_seen) answers
+
+-- Before and after each line, each cursor stands at most 64 milliseconds past the saved end, however many draws were refused
+abbrev pub StaysBounded : Whole → List Line → Type 0
+StaysBounded w [] = AreBounded w
+StaysBounded w (line ∷ lines) = AreBounded w × StaysBounded (act_step w line.act).after lines

@@ -1,15 +1,22 @@
 -- What a command answers to a text, and what a run of the program leaves of it (own choice).
-use Rattle.std.specs.Prelude.{◌≡◌, ◌⊎◌, ℕ, ◌<◌, List, ◌++◌, length, codes, Option, Result, Ok, Err, nat_lt, if◌then◌else◌}
+use Rattle.std.specs.Prelude.{◌≡◌, ◌⊎◌, ℕ, ◌<◌, List, [], ◌++◌, length, codes, Option, Result, Ok, Err, nat_lt, if◌then◌else◌}
 use Rattle.std.specs.Fmt.{decimal}
 use Rattle.std.specs.Io.KnownBytes.{Appends, Consumes, IsAtEnd, Keeps}
 use Rattle.pd_lines.specs.Output.{WritesPrefix}
-use Rattle.pd_cluster.specs.History.{IsSafe}
+use Rattle.pd_types.specs.Timestamp.{physical, logical}
 use Rattle.pd_types.specs.declared.oracle.Window.{Window}
-use Rattle.pd_cluster.specs.Replay.{Answer, answers_from, answers_text, start, state_after}
-use Rattle.pd_cluster.specs.Script.{script_of}
+use Rattle.pd_script.specs.Numbering.{reason_number}
+use Rattle.pd_script.specs.Scripts.{script_of}
+use Rattle.pd_script.specs.declared.refusal.Limited.{Limited}
+use Rattle.pd_script.specs.declared.refusal.Limited.TheVariants.{Events, Drivers, Clients}
+use Rattle.pd_script.specs.declared.refusal.ScriptRefusal.{ScriptRefusal}
+use Rattle.pd_script.specs.declared.refusal.ScriptRefusal.TheVariants.{Fault, Limit as PastLimit, NoMemory as NoRoom}
+use Rattle.pd_script.specs.declared.script.Mode.TheVariants.{Replay as ByLine}
+use Rattle.pd_script.specs.declared.script.Script.{Script}
+use Rattle.pd_cluster.specs.History.{IsSafe, StaysBounded}
+use Rattle.pd_cluster.specs.Replay.{Answer, answers_of, answers_text, start, state_after}
 use Rattle.pd_cluster.specs.declared.command.Command.{Command}
-use Rattle.pd_cluster.specs.declared.command.Command.TheVariants.{Replay}
-use Rattle.pd_cluster.specs.declared.script.Line.{Line}
+use Rattle.pd_cluster.specs.declared.command.Command.TheVariants.{Replay, Tso}
 use Rattle.pd_cluster.specs.declared.status.Status.{Status}
 use Rattle.pd_cluster.specs.declared.status.Status.TheVariants.{Done, Usage, Refused, ReadFault, WriteFault, NoMemory, Limit}
 
@@ -26,23 +33,50 @@ usage = record { status = Usage; text = codes "usage: pd_cluster replay | run | 
 abbrev pub limit_bytes : Outcome
 limit_bytes = record { status = Limit; text = codes "limit bytes 16777217\n" }
 
--- the answer to a script, or to a text whose first line at fault has this number
-abbrev pub script_outcome : Result (List Line) ℕ → Outcome
-script_outcome (Ok lines) = record { status = Done; text = answers_text (answers_from start lines) }
-script_outcome (Err line) = record { status = Refused; text = codes "line " ++ decimal line ++ codes ": reason 3\n" }
+-- the answer of `tso`: both parts of the timestamp
+abbrev pub tso_outcome : ℕ → Outcome
+tso_outcome timestamp = record { status = Done; text = codes "physical " ++ decimal (physical timestamp) ++ codes " logical " ++ decimal (logical timestamp) ++ codes "\n" }
+
+-- the word for what there is too much of
+abbrev pub limited_text : Limited → List ℕ
+limited_text Events = codes "events"
+limited_text Drivers = codes "drivers"
+limited_text Clients = codes "clients"
+
+-- the answer to a text that is no script; want of memory is never the text's own
+abbrev pub refusal_outcome : ScriptRefusal → Outcome
+refusal_outcome (Fault line reason) = record { status = Refused; text = codes "line " ++ decimal line ++ codes ": reason " ++ decimal (reason_number reason) ++ codes "\n" }
+refusal_outcome (PastLimit what count) = record { status = Limit; text = codes "limit " ++ limited_text what ++ codes " " ++ decimal count ++ codes "\n" }
+refusal_outcome NoRoom = record { status = NoMemory; text = [] }
+
+-- the answer to a script, or to a text that is none
+abbrev pub script_outcome : Result Script ScriptRefusal → Outcome
+script_outcome (Ok script) = record { status = Done; text = answers_text (answers_of script) }
+script_outcome (Err refusal) = refusal_outcome refusal
 
 -- the answer of `replay` to the text that was read
 abbrev pub replay_outcome : List ℕ → Outcome
-replay_outcome text = if nat_lt 16777216 (length text) then limit_bytes else script_outcome (script_of text)
+replay_outcome text = if nat_lt 16777216 (length text) then limit_bytes else script_outcome (script_of ByLine text)
 
 -- a lawful outcome of a command over the text that it read
 abbrev pub IsOutcome : Command → List ℕ → Outcome → Type 0
 IsOutcome Replay text outcome = outcome ≡ replay_outcome text
+IsOutcome (Tso timestamp) text outcome = outcome ≡ tso_outcome timestamp
 
--- the oracle's part of the answers to a script is a safe history
-abbrev pub SafeScript : Result (List Line) ℕ → Type 0
-SafeScript (Ok lines) = IsSafe (state_after start lines).windows (answers_from start lines)
-SafeScript (Err line) = Unit {0}
+-- the answers to a script are a safe history, and its cursors stay bounded
+pub record IsSafeRun (script : Script) : Type 0 where
+  pub answers : IsSafe (state_after (start script) script.lines).windows (answers_of script)
+  pub cursors : StaysBounded (start script) script.lines
+
+-- the oracle's part of the outcome is safe, where there is a script
+abbrev pub SafeScript : Result Script ScriptRefusal → Type 0
+SafeScript (Ok script) = IsSafeRun script
+SafeScript (Err refusal) = Unit {0}
+
+-- a command's outcome over the text that it read is safe
+abbrev pub SafeOutcome : Command → List ℕ → Type 0
+SafeOutcome Replay text = SafeScript (script_of ByLine text)
+SafeOutcome (Tso timestamp) text = Unit {0}
 
 -- this text was taken, and it is the whole, or longer than the limit
 pub record Takes (old new : Option (List ℕ)) (text : List ℕ) : Type 0 where
@@ -52,6 +86,7 @@ pub record Takes (old new : Option (List ℕ)) (text : List ℕ) : Type 0 where
 -- what a command takes of the source
 abbrev pub Reads : Command → Option (List ℕ) → Option (List ℕ) → List ℕ → Type 0
 Reads Replay old new text = Takes old new text
+Reads (Tso timestamp) old new text = Keeps old new × (text ≡ [])
 
 -- The outcome was written whole, or a fault of the sink or want of memory left a prefix of its text.
 abbrev pub Leaves : Outcome → Status → Option (List ℕ) → Option (List ℕ) → Type 0
@@ -66,7 +101,7 @@ pub record Answers (command : Command) (status : Status) (left_old left_new held
   pub taken : Reads command left_old left_new text
   pub lawful : IsOutcome command text outcome
   pub written : Leaves outcome status held_old held_new
-  pub history : SafeScript (script_of text)
+  pub history : SafeOutcome command text
 
 -- answers that are a safe history have this text, and it is written in this way
 pub record PrintsSafely (Writes : List ℕ → Type 0) : Type 0 where
@@ -75,9 +110,9 @@ pub record PrintsSafely (Writes : List ℕ → Type 0) : Type 0 where
   pub printed : Writes (answers_text answers)
   pub safe : IsSafe windows answers
 
--- a text that has no answers, the limit or the line at fault, is written in this way
+-- a text that has no answers, a limit or the line at fault, is written in this way
 abbrev pub PrintsRefusal : (List ℕ → Type 0) → Type 0
-PrintsRefusal Writes = Writes limit_bytes.text ⊎ ((line : ℕ) × Writes (script_outcome (Err line)).text)
+PrintsRefusal Writes = Writes limit_bytes.text ⊎ ((refusal : ScriptRefusal) × Writes (refusal_outcome refusal).text)
 
 -- The headline: what is printed at the end is the text of answers that grant no timestamp twice. Where a fault of the sink or
 -- want of memory cut it, it is a prefix of such a text, or of a text that has no answers.
@@ -89,6 +124,11 @@ GrantsNoneTwice Usage old new = Unit {0}
 GrantsNoneTwice Refused old new = Unit {0}
 GrantsNoneTwice ReadFault old new = Unit {0}
 GrantsNoneTwice Limit old new = Unit {0}
+
+-- the headline of a command; `tso` prints no answers
+abbrev pub IsHeadline : Command → Status → Option (List ℕ) → Option (List ℕ) → Type 0
+IsHeadline Replay status old new = GrantsNoneTwice status old new
+IsHeadline (Tso timestamp) status old new = Unit {0}
 
 -- how a run of a command may end
 abbrev pub Ends : Command → Status → Option (List ℕ) → Option (List ℕ) → Option (List ℕ) → Option (List ℕ) → Type 0

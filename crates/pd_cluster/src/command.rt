@@ -1,10 +1,14 @@
 ghost use Rattle.std.specs.Prelude.{◌≡◌, map, string_bytes};
 
+use pd_lines::number;
+
 /// What the program is asked to do.
 #[derive(Clone, Copy, Debug, PartialEq, Eq)]
 pub enum Command {
     /// Run the lines of a script in their order.
     Replay,
+    /// Print the two parts of a timestamp.
+    Tso { timestamp: u64 },
 }
 
 impl Command {
@@ -16,6 +20,10 @@ impl Command {
     {
         match words {
             [word] if word.as_str() == "replay" => Some(Command::Replay),
+            [word, timestamp] if word.as_str() == "tso" => {
+                let timestamp = number(timestamp.as_bytes())?;
+                Some(Command::Tso { timestamp })
+            }
             _ => None,
         }
     }

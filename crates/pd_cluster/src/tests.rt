@@ -37,69 +37,238 @@ fn expect(
     Ok(())
 }
 
+// Worked rows. In each line an act stands in front of its answer.
+const ROWS: [&str; 16] = [
+    "\
+lead 1 1000 = won term 1 lo 1000 hi 4000
+take 1 1 3 = got term 1 driver 1 first 262144001 last 262144003
+tick 1 900 = idle
+tick 2 900 = not-leading
+resign 1 = resigned
+resign 1 = not-leading",
+    "\
+lead 1 0 = won term 1 lo 1 hi 3001
+take 1 1 1 = got term 1 driver 1 first 262145 last 262145",
+    "\
+lead 1 1000 = won term 1 lo 1000 hi 4000
+take 1 1 262143 = got term 1 driver 1 first 262144001 last 262406143
+take 1 1 1 = again at 262406143 hi 4000 count 1
+tick 1 1000 = moved next 1001 hi 4000
+take 1 1 1 = got term 1 driver 1 first 262406145 last 262406145",
+    "\
+lead 1 1000 = won term 1 lo 1000 hi 4000
+tick 1 3999 = moved next 3999 hi 6999",
+    "\
+lead 1 1000 = won term 1 lo 1000 hi 4000
+tick 1 3998 = moved next 3998 hi 4000",
+    "\
+lead 1 1000 = won term 1 lo 1000 hi 4000
+take 1 1 3 = got term 1 driver 1 first 262144001 last 262144003
+lead 2 500 = won term 2 lo 4001 hi 7001
+take 2 2 1 = got term 2 driver 2 first 1048838145 last 1048838145
+take 1 1 2 = got term 1 driver 1 first 262144004 last 262144005
+hear 1 = nothing
+tell 2 1 = told
+hear 1 = heard term 2 last 1048838145
+take 1 1 1 = stale seen 2
+tick 1 3999 = lost saved 7001 term 2
+take 2 1 1 = not-leader",
+    "\
+read 1 1000 = cell saved 0 term 0
+read 2 2000 = cell saved 0 term 0
+campaign 2 = claimed term 1
+campaign 1 = beaten saved 0 term 1
+read 1 1000 = cell saved 0 term 1
+campaign 1 = claimed term 2
+save 2 = lost saved 0 term 2
+publish 2 = published 0
+save 1 = saved hi 4000
+raise 1 = raised cursor 262144000
+publish 1 = published hi 4000
+raise 1 = out-of-turn expected rest",
+    "\
+lead 1 1000 = won term 1 lo 1000 hi 4000
+take 1 1 262000 = got term 1 driver 1 first 262144001 last 262406000
+look 1 1 = looked term 1 hi 4000
+arm 1 100 = armed at 262406000
+look 2 1 = looked term 1 hi 4000
+arm 2 100 = armed at 262406000
+draw 1 = got term 1 driver 1 first 262406001 last 262406100
+draw 2 = again at 262406100 hi 4000 count 100
+take 2 1 1 = got term 1 driver 1 first 262406201 last 262406201",
+    "\
+lead 1 1000 = won term 1 lo 1000 hi 4000
+look 1 1 = looked term 1 hi 4000
+arm 1 5 = armed at 262144000
+lead 2 1500 = won term 2 lo 4001 hi 7001
+lead 1 1600 = won term 3 lo 7002 hi 10002
+draw 1 = again at 1835532288 hi 4000 count 5
+take 1 1 1 = got term 3 driver 1 first 1835532294 last 1835532294",
+    "\
+cell 5 262142 = cell saved 5 term 262142
+lead 1 0 = won term 262143 lo 6 hi 3006
+lead 1 0 = terms-spent",
+    "\
+lead 1 35184372085832 = clock-range
+lead 1 35184372085831 = won term 1 lo 35184372085831 hi 35184372088831
+take 1 1 1 = got term 1 driver 1 first 9223372036068081665 last 9223372036068081665",
+    "\
+probe 1 900 = not-leading
+lead 1 1000 = won term 1 lo 1000 hi 4000
+probe 1 2000 = probed cursor 262144000
+tick 1 2000 = out-of-turn expected raise
+raise 1 = raised cursor 524288000",
+    "\
+lead 1 1000 = won term 1 lo 1000 hi 4000
+look 1 1 = looked term 1 hi 4000
+draw 1 = out-of-turn expected arm
+take 1 1 1 = out-of-turn expected arm
+tell 1 1 = out-of-turn expected arm
+arm 1 2 = armed at 262144000
+hear 1 = out-of-turn expected draw
+draw 1 = got term 1 driver 1 first 262144001 last 262144002",
+    "\
+read 1 1000 = cell saved 0 term 0
+lead 1 1000 = out-of-turn expected campaign
+campaign 1 = claimed term 1
+resign 1 = out-of-turn expected save
+save 1 = saved hi 4000
+publish 1 = out-of-turn expected raise
+raise 1 = raised cursor 262144000
+raise 1 = out-of-turn expected publish",
+    "\
+lead 7 70368744177663 = clock-range
+take 64 7 262143 = not-leader",
+    "",
+];
+
+// The script of a row.
+fn script_of(alloc: Global, row: &str) -> Result<String, Fail> {
+    let mut script = String::new(alloc);
+    for line in row.lines() {
+        let Some((act, _)) = line.split_once('=') else {
+            return Err(Fail::new("a line without an answer"));
+        };
+        writeln!(script, "{act}")?;
+    }
+    Ok(script)
+}
+
+// The answers of a row, each with its line's number.
+fn answers_of(alloc: Global, row: &str) -> Result<String, Fail> {
+    let mut answers = String::new(alloc);
+    let mut number = 1u64;
+    for line in row.lines() {
+        let Some((_, answer)) = line.split_once('=') else {
+            return Err(Fail::new("a line without an answer"));
+        };
+        writeln!(answers, "{number}{answer}")?;
+        number = number.saturating_add(1);
+    }
+    Ok(answers)
+}
+
 #[test]
-fn scripts_are_answered_with_ample_memory(rt: HostRuntime) -> Result<(), Fail> {
+fn worked_rows_are_answered_with_ample_memory(rt: HostRuntime) -> Result<(), Fail> {
+    let alloc = rt.alloc();
+    for row in ROWS {
+        let script = script_of(alloc, row)?;
+        let answers = answers_of(alloc, row)?;
+        expect(&rt, alloc, script.as_str(), Status::Done, answers.as_str())?;
+    }
+    Ok(())
+}
+
+// 64 clients arm nearly a whole millisecond each before the first of them draws.
+fn storm(alloc: Global) -> Result<String, Fail> {
+    let mut script = String::new(alloc);
+    script.push_str("lead 1 1000\ntick 1 3998\n")?;
+    for client in 1u64..65 {
+        writeln!(script, "look {client} 1\narm {client} 262143")?;
+    }
+    for client in 1u64..65 {
+        writeln!(script, "draw {client}")?;
+    }
+    script.push_str("tick 1 3998\ntake 1 1 1\n")?;
+    Ok(script)
+}
+
+// Its answers: one draw fits, each other one moves the cursor on and is refused.
+fn storm_answers(alloc: Global) -> Result<String, Fail> {
+    let mut answers = String::new(alloc);
+    answers.push_str("1 won term 1 lo 1000 hi 4000\n2 moved next 3998 hi 4000\n")?;
+    for client in 1u64..65 {
+        let (look, arm) = (2 * client + 1, 2 * client + 2);
+        writeln!(
+            answers,
+            "{look} looked term 1 hi 4000\n{arm} armed at 1048051712"
+        )?;
+    }
+    answers.push_str("131 got term 1 driver 1 first 1048051713 last 1048313855\n")?;
+    for client in 2u64..65 {
+        let at = 1_048_051_712 + 262_143 * (client - 1);
+        writeln!(
+            answers,
+            "{} again at {at} hi 4000 count 262143",
+            130 + client
+        )?;
+    }
+    answers.push_str(
+        "195 moved next 4062 hi 7062\n196 got term 1 driver 1 first 1064828929 last 1064828929\n",
+    )?;
+    Ok(answers)
+}
+
+#[test]
+fn a_storm_of_refused_draws_moves_the_cursor_64_milliseconds(rt: HostRuntime) -> Result<(), Fail> {
+    let alloc = rt.alloc();
+    let script = storm(alloc)?;
+    let answers = storm_answers(alloc)?;
+    expect(&rt, alloc, script.as_str(), Status::Done, answers.as_str())?;
+    Ok(())
+}
+
+#[test]
+fn the_first_line_at_fault_or_limit_is_named(rt: HostRuntime) -> Result<(), Fail> {
     let rows = [
-        (SCRIPT, ANSWER),
+        ("lead 1 10", Status::Refused, "line 1: reason 1\n"),
         (
-            "lead 1 0\ntake 1 1 1\n",
-            "1 won term 1 lo 1 hi 3001\n2 got term 1 driver 1 first 262145 last 262145\n",
-        ),
-        ("", ""),
-        (
-            "lead 1 1000\ntake 1 1 262143\ntake 1 1 1\n",
-            "1 won term 1 lo 1000 hi 4000\n2 got term 1 driver 1 first 262144001 last 262406143\n3 again at 262406143 hi 4000 count 1\n",
+            "lead 1 1000\ntake 1 1 0\n",
+            Status::Refused,
+            "line 2: reason 7\n",
         ),
         (
-            "take 1 1 1\nlead 1 35184372085832\nlead 1 35184372085831\ntake 1 1 1\n",
-            "1 not-leader\n2 clock-range\n3 won term 1 lo 35184372085831 hi 35184372088831\n4 got term 1 driver 1 first 9223372036068081665 last 9223372036068081665\n",
+            "# x\n\nlead 1\nlead\n",
+            Status::Refused,
+            "line 3: reason 4\n",
         ),
+        (
+            "take 1 1 1\ncell 1 1\n",
+            Status::Refused,
+            "line 2: reason 9\n",
+        ),
+        ("take 1 8 1\n", Status::Limit, "limit drivers 8\n"),
+        ("take 65 1 1\n", Status::Limit, "limit clients 65\n"),
     ];
-    for (script, written) in rows {
-        expect(&rt, rt.alloc(), script, Status::Done, written)?;
+    for (script, status, written) in rows {
+        expect(&rt, rt.alloc(), script, status, written)?;
     }
     Ok(())
 }
 
 #[test]
-fn the_first_line_in_no_form_is_named(rt: HostRuntime) -> Result<(), Fail> {
-    let rows = [
-        ("lead 1 1000\ntick 1 1000\n", "line 2: reason 3\n"),
-        ("lead 1 10", "line 1: reason 3\n"),
-        ("lead 1 1\ntake 1 1 3", "line 2: reason 3\n"),
-        ("\n", "line 1: reason 3\n"),
-        ("lead 1 1\n# a comment\n", "line 2: reason 3\n"),
-        ("lead  1 1\n", "line 1: reason 3\n"),
-        ("lead 1 1 \n", "line 1: reason 3\n"),
-        (" lead 1 1\n", "line 1: reason 3\n"),
-        ("lead\t1 1\n", "line 1: reason 3\n"),
-        ("lead 1 01\n", "line 1: reason 3\n"),
-        ("lead 1 +1\n", "line 1: reason 3\n"),
-        ("lead 01 1\n", "line 1: reason 3\n"),
-        ("lead 2 1\n", "line 1: reason 3\n"),
-        ("lead 1\n", "line 1: reason 3\n"),
-        ("lead 1 1 1\n", "line 1: reason 3\n"),
-        ("lead 1 70368744177664\n", "line 1: reason 3\n"),
-        ("take 1 1 0\n", "line 1: reason 3\n"),
-        ("take 1 1 262144\n", "line 1: reason 3\n"),
-        ("take 1 2 1\ntake 2 1 1\n", "line 1: reason 3\n"),
-        ("take 1 1 1\ntake 2 1 1\nx\n", "line 2: reason 3\n"),
-        ("lead 1 1\u{e9}\n", "line 1: reason 3\n"),
-    ];
-    for (script, written) in rows {
-        expect(&rt, rt.alloc(), script, Status::Refused, written)?;
+fn one_event_too_many_is_counted(rt: HostRuntime) -> Result<(), Fail> {
+    let alloc = rt.alloc();
+    let mut script = String::new(alloc);
+    for _ in 0..65537 {
+        script.push_str("tick 1 1\n")?;
     }
-    Ok(())
-}
-
-#[test]
-fn ends_of_the_ranges_are_read(rt: HostRuntime) -> Result<(), Fail> {
     expect(
         &rt,
-        rt.alloc(),
-        "lead 1 70368744177663\ntake 1 1 262143\n",
-        Status::Done,
-        "1 clock-range\n2 not-leader\n",
+        alloc,
+        script.as_str(),
+        Status::Limit,
+        "limit events 65537\n",
     )?;
     Ok(())
 }
@@ -155,8 +324,44 @@ fn other_words_are_answered_with_the_usage(rt: HostRuntime) -> Result<(), Fail> 
     expect_usage(&rt, rt.alloc(), &[])?;
     expect_usage(&rt, rt.alloc(), &["replay", "x"])?;
     expect_usage(&rt, rt.alloc(), &["run"])?;
-    expect_usage(&rt, rt.alloc(), &["tso", "1"])?;
+    expect_usage(&rt, rt.alloc(), &["tso", "01"])?;
+    expect_usage(&rt, rt.alloc(), &["tso"])?;
     expect_usage(&rt, rt.alloc(), &["--help"])?;
+    Ok(())
+}
+
+// Prints a timestamp's parts. The source fails where it is asked.
+fn expect_parts(
+    rt: &impl Abort,
+    alloc: Global,
+    timestamp: &str,
+    text: &str,
+) -> Result<(), AllocError> {
+    let words = words_of(alloc, &["tso", timestamp])?;
+    let mut source = MemSource::new(Vec::new(alloc), 1, vec![in alloc; 1]?);
+    let mut sink = SureSink::new(alloc);
+    let ended = pd_top(alloc, &words, &mut source, &mut sink);
+    assert_eq!(rt; ended, Status::Done);
+    assert_eq!(rt; sink.bytes(), text.as_bytes());
+    Ok(())
+}
+
+#[test]
+fn a_timestamp_is_split_as_pd_ctl_prints_it(rt: HostRuntime) -> Result<(), Fail> {
+    let alloc = rt.alloc();
+    expect_parts(
+        &rt,
+        alloc,
+        "395181938313123110",
+        "physical 1507499459507 logical 120102\n",
+    )?;
+    expect_parts(&rt, alloc, "0", "physical 0 logical 0\n")?;
+    expect_parts(
+        &rt,
+        alloc,
+        "18446744073709551615",
+        "physical 70368744177663 logical 262143\n",
+    )?;
     Ok(())
 }
 

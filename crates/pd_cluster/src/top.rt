@@ -2,19 +2,22 @@
 ghost use Rattle.std.specs.Prelude.{◌≡◌, ◌≢◌, ◌≤◌, IfOk, IfNone, IfSome, IsErrOf, length, map, string_bytes};
 ghost use Rattle.std.specs.Io.KnownBytes.{Keeps};
 ghost use Rattle.pd_cluster.specs.Command.{command_of};
-ghost use Rattle.pd_cluster.specs.Outcome.{Ends, GrantsNoneTwice, Leaves, Outcome, limit_bytes, script_outcome, usage};
+ghost use Rattle.pd_cluster.specs.Outcome.{Ends, IsHeadline, Leaves, Outcome, limit_bytes, limited_text, refusal_outcome, script_outcome, tso_outcome, usage};
 ghost use Rattle.pd_cluster.specs.Response.{Gives, HasEndCause, HasFailureCause, IsFinal, Responds};
+ghost use Rattle.pd_cluster.specs.declared.command.Command.TheVariants.{Replay};
 ghost use Rattle.pd_cluster.specs.declared.status.Status.TheVariants.{ReadFault, WriteFault};
-ghost use Rattle.pd_cluster.specs.Script.{script_of};
+ghost use Rattle.pd_script.specs.Scripts.{script_of};
+ghost use Rattle.pd_script.specs.declared.refusal.ScriptRefusal.TheVariants.{Fault, Limit as PastLimit};
+ghost use Rattle.pd_script.specs.declared.script.Mode.TheVariants.{Replay as ByLine};
 
 use crate::command::Command;
-use crate::parse::{ScriptRefusal, read_script};
 use crate::replay::replay_script;
 use crate::response::Response;
 use crate::status::Status;
 use pd_io::{PutFault, Sink, Source};
 use pd_lines::{ReadRefusal, put_all, read_all};
-use pd_types::NoMemory;
+use pd_script::{Limited, Mode, Reason, ScriptRefusal, read_script};
+use pd_types::{NoMemory, unpack};
 use std::alloc::{AllocError, Global};
 
 /// How many bytes a script has at most.
@@ -52,28 +55,83 @@ fn limit_response(alloc: Global) -> Result<Response, AllocError>
     })
 }
 
+// The response to `tso`.
+fn tso_response(alloc: Global, timestamp: u64) -> Result<Response, AllocError>
+    ensures { IfOk result (Gives (tso_outcome timestamp)) }
+{
+    let (physical, logical) = unpack(timestamp);
+    let text = format!(in alloc; "physical {physical} logical {logical}\n")?;
+    Ok(Response {
+        status: Status::Done,
+        text,
+    })
+}
+
+// The response to a text with a line at fault.
+fn fault_response(alloc: Global, line: u32, reason: Reason) -> Result<Response, AllocError>
+    ensures { IfOk result (Gives (refusal_outcome (Fault line reason))) }
+{
+    let reason = reason.number();
+    let text = format!(in alloc; "line {line}: reason {reason}\n")?;
+    Ok(Response {
+        status: Status::Refused,
+        text,
+    })
+}
+
+// The word for what there is too much of.
+fn limited_word(what: Limited) -> &'static str
+    ensures value { result.now ≡ limited_text what }
+{
+    match what {
+        Limited::Events => "events",
+        Limited::Drivers => "drivers",
+        Limited::Clients => "clients",
+    }
+}
+
+// The response to a text past a limit.
+fn past_limit_response(alloc: Global, what: Limited, count: u64) -> Result<Response, AllocError>
+    ensures { IfOk result (Gives (refusal_outcome (PastLimit what count))) }
+{
+    let what = limited_word(what);
+    let text = format!(in alloc; "limit {what} {count}\n")?;
+    Ok(Response {
+        status: Status::Limit,
+        text,
+    })
+}
+
 // The response to a script.
 fn script_response(alloc: Global, text: &[u8]) -> Result<Response, NoMemory>
     requires { length text.now ≤ 16777216 }
-    ensures gives { IfOk result (Gives (script_outcome (script_of text.now))) }
+    ensures gives { IfOk result (Gives (script_outcome (script_of ByLine text.now))) }
     ensures settled { IfOk result (λ r. IsFinal r.status) }
 {
-    match read_script(alloc, text) {
-        Ok(lines) => {
-            let text = replay_script(alloc, &lines)?;
+    match read_script(alloc, text, Mode::Replay) {
+        Ok(script) => {
+            let text = replay_script(alloc, &script)?;
             Ok(Response {
                 status: Status::Done,
                 text,
             })
         }
-        Err(ScriptRefusal::Fault { line }) => {
-            let text = format!(in alloc; "line {line}: reason 3\n")?;
-            Ok(Response {
-                status: Status::Refused,
-                text,
-            })
-        }
+        Err(ScriptRefusal::Fault { line, reason }) => Ok(fault_response(alloc, line, reason)?),
+        Err(ScriptRefusal::Limit { what, count }) => Ok(past_limit_response(alloc, what, count)?),
         Err(ScriptRefusal::NoMemory) => Err(NoMemory),
+    }
+}
+
+// The response to what the source gives, as a script.
+fn replay_response<S: Source>(alloc: Global, source: &mut S) -> Result<Response, Failure>
+    ensures answered { IfOk result (Responds Replay (S.left source.old) (S.left source.new)) }
+    ensures cause { HasFailureCause (S.faults source.old) (S.faults source.new) result }
+{
+    match read_all(alloc, source, MAX_BYTES) {
+        Ok(text) => script_response(alloc, text.as_slice()).map_err(|_| Failure::NoMemory),
+        Err(ReadRefusal::TooLong) => limit_response(alloc).map_err(|_| Failure::NoMemory),
+        Err(ReadRefusal::ReadFault) => Err(Failure::ReadFault),
+        Err(ReadRefusal::NoMemory) => Err(Failure::NoMemory),
     }
 }
 
@@ -83,12 +141,10 @@ fn respond<S: Source>(alloc: Global, command: Command, source: &mut S) -> Result
     ensures cause { HasFailureCause (S.faults source.old) (S.faults source.new) result }
 {
     match command {
-        Command::Replay => match read_all(alloc, source, MAX_BYTES) {
-            Ok(text) => script_response(alloc, text.as_slice()).map_err(|_| Failure::NoMemory),
-            Err(ReadRefusal::TooLong) => limit_response(alloc).map_err(|_| Failure::NoMemory),
-            Err(ReadRefusal::ReadFault) => Err(Failure::ReadFault),
-            Err(ReadRefusal::NoMemory) => Err(Failure::NoMemory),
-        },
+        Command::Replay => replay_response(alloc, source),
+        Command::Tso { timestamp } => {
+            tso_response(alloc, timestamp).map_err(|_| Failure::NoMemory)
+        }
     }
 }
 
@@ -123,7 +179,7 @@ pub fn pd_top<S: Source, K: Sink>(
     ensures answer { IfSome (command_of (map string_bytes words.now)) (λ command. Ends command result (S.left source.old) (S.left source.new) (K.held sink.old) (K.held sink.new)) }
 
     // The headline: no timestamp is granted twice in what was printed.
-    ensures history { IfSome (command_of (map string_bytes words.now)) (λ _. GrantsNoneTwice result (K.held sink.old) (K.held sink.new)) }
+    ensures history { IfSome (command_of (map string_bytes words.now)) (λ command. IsHeadline command result (K.held sink.old) (K.held sink.new)) }
 
     // A fault is answered only where its count rose.
     ensures read { HasEndCause ReadFault (S.faults source.old) (S.faults source.new) result }

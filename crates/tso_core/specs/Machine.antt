@@ -1,59 +1,36 @@
--- A lead and a draw, each as the answer and the state after it (PD documentation, "Timestamp Oracle").
-use Rattle.std.specs.Prelude.{ℕ, ◌+◌, ◌*◌, ◌/◌, ◌%◌, max, [], ◌∷◌, ◌++◌, nat_eq, nat_le, if◌then◌else◌}
-use Rattle.pd_types.specs.declared.oracle.Batch.{Batch}
-use Rattle.pd_types.specs.declared.oracle.CellWord.{CellWord}
-use Rattle.pd_types.specs.declared.stamp.TheConstants.{LOGICAL}
-use Rattle.tso_core.specs.declared.machine.TheConstants.{CLOCK_END, LAST_TERM}
-use Rattle.tso_core.specs.Oracle.{Oracle}
-use Rattle.tso_core.specs.Plan.{lead_lo, lead_hi, passes}
-use Rattle.tso_core.specs.declared.reply.Reply.{Reply}
-use Rattle.tso_core.specs.declared.reply.Reply.TheVariants.{Won, TermsSpent, ClockRange, Got, Again, NotLeader}
+-- What the machine in memory means, and the room that a step of one actor finds there.
+use Rattle.std.specs.Prelude.{◌≡◌, ℕ, ◌+◌, List, map}
+use mathlib.Core.Option.{some}
+use lib.ListN.{get_elem?}
+use Rattle.tso_core.specs.declared.seat.Seat.{Seat}
+use Rattle.tso_core.specs.declared.lists.Lists.{Lists}
+use Rattle.tso_core.specs.declared.machine.Machine.{Machine}
+use Rattle.tso_core.specs.declared.post.Post.{Post}
+use Rattle.tso_core.specs.Seat.{view_of, HasRoom}
+use Rattle.tso_core.specs.Lists.{HasRows}
+use Rattle.tso_core.specs.Whole.{Whole}
 
--- an answer and the state after it
-pub record Stepped : Type 0 where
-  pub reply : Reply
-  pub after : Oracle
+-- the notes of a post, the oldest first
+abbrev pub waits_in : Post → List ℕ
+waits_in p = p.notes.items
 
--- nothing but the opening cell, whose window is driver 0's
-abbrev pub opening : CellWord → Oracle
-opening cell = record {
-  cell = cell;
-  limit = 0;
-  cursor = 0;
-  batches = [];
-  windows = record { term = cell.term; driver = 0; lo = cell.saved; hi = cell.saved } ∷ [];
+-- the state
+abbrev pub whole_of : Machine → Lists → Whole
+whole_of m l = record {
+  setup = m.setup;
+  words = m.words.items;
+  views = map view_of m.seats.items;
+  turns = m.turns.items;
+  posts = map waits_in m.posts.items;
+  windows = l.windows.items;
+  batches = l.batches.items;
 }
 
--- the driver claims the next term and saves its window
-abbrev pub claimed : Oracle → ℕ → ℕ → ℕ → Oracle
-claimed o driver lo hi = record {
-  cell = record { saved = hi; term = o.cell.term + 1 };
-  limit = hi * LOGICAL + (o.cell.term + 1);
-  cursor = max o.cursor (lo * LOGICAL);
-  windows = o.windows ++ record { term = o.cell.term + 1; driver = driver; lo = lo; hi = hi } ∷ [];
-  batches = o.batches;
-}
+-- the seat at this place and the lists have room for n more steps
+pub record RoomAt (n id : ℕ) (m : Machine) (l : Lists) : Type 0 where
+  pub seat : (s : Seat) → get_elem? m.seats.items id ≡ some s → HasRoom n s
+  pub rows : HasRows n l
 
--- a lead at a moment
-abbrev pub lead_of : Oracle → ℕ → ℕ → Stepped
-lead_of o driver now =
-    if nat_eq o.cell.term LAST_TERM then record { reply = TermsSpent; after = o }
-    else if nat_le CLOCK_END (lead_hi o.cell.saved now) then record { reply = ClockRange; after = o }
-    else record {
-      reply = Won (o.cell.term + 1) (lead_lo o.cell.saved now) (lead_hi o.cell.saved now);
-      after = claimed o driver (lead_lo o.cell.saved now) (lead_hi o.cell.saved now);
-    }
-
--- the batch of n after the cursor
-abbrev pub drawn : Oracle → ℕ → ℕ → Batch
-drawn o driver n = record { term = o.limit % LOGICAL; driver = driver; last = o.cursor + n; count = n }
-
--- a draw of n timestamps: granted exactly where the driver has published a limit and the draw doesn't pass it
-abbrev pub take_of : Oracle → ℕ → ℕ → Stepped
-take_of o driver n =
-    if nat_eq o.limit 0 then record { reply = NotLeader; after = o }
-    else if passes o.cursor (o.limit / LOGICAL) n then record { reply = Again o.cursor (o.limit / LOGICAL) n; after = o }
-    else record {
-      reply = Got (drawn o driver n);
-      after = record o { cursor = o.cursor + n; batches = o.batches ++ drawn o driver n ∷ [] };
-    }
+-- one step takes one place of each list at most
+abbrev pub UsesOneAt : ℕ → Machine → Lists → Machine → Lists → Type 0
+UsesOneAt id m l m' l' = (n : ℕ) → RoomAt (n + 1) id m l → RoomAt n id m' l'

@@ -1,17 +1,27 @@
--- What a lead at a moment claims, and which draws don't fit (the form is PD's, `syncTimestamp` and `getTS`; the numbers are our own choice).
-use Rattle.std.specs.Prelude.{ℕ, ◌+◌, ◌*◌, max, Bool, nat_le, ◌||◌}
-use Rattle.pd_types.specs.Timestamp.{logical}
-use Rattle.pd_types.specs.declared.stamp.TheConstants.{LOGICAL}
-use Rattle.tso_core.specs.declared.machine.TheConstants.{WINDOW}
+-- What a moment asks for (PD documentation, "Timestamp Oracle": the physical part follows the clock, goes on where over half of the logical part is used, and a window is saved ahead; the exact conditions are own choice).
+use Rattle.std.specs.Prelude.{ℕ, ◌+◌, ◌-◌, ◌^◌, max, Bool, Option, None, Some, nat_le, nat_lt, if◌then◌else◌}
+use Rattle.pd_types.specs.Timestamp.{physical, logical}
 
--- the first millisecond of a lead: the moment, but past the saved time
-abbrev pub lead_lo : ℕ → ℕ → ℕ
-lead_lo saved now = max now (saved + 1)
+-- the end that is saved with a physical time: 3000 milliseconds behind it
+abbrev pub end_of : ℕ → ℕ
+end_of next = next + 3000
 
--- the end that it saves
-abbrev pub lead_hi : ℕ → ℕ → ℕ
-lead_hi saved now = lead_lo saved now + WINDOW
+-- that end would be past the clock's 45 bits
+abbrev pub past_clock : ℕ → Bool
+past_clock next = nat_le (2 ^ 45) (end_of next)
 
--- a draw of n at this cursor reaches the saved end, or the end of the logical part
-abbrev pub passes : ℕ → ℕ → ℕ → Bool
-passes at hi n = nat_le (hi * LOGICAL) (at + n) || nat_le LOGICAL (logical at + n)
+-- the start of a lead over this saved time: the moment, or the next millisecond where the moment isn't above the saved time
+abbrev pub lead_next : ℕ → ℕ → ℕ
+lead_next saved now = max now (saved + 1)
+
+-- where a tick moves the cursor to, over the held end: to the moment, where that is more than a millisecond ahead; to the next millisecond, where over half of the logical part is used, or the end is reached; else nowhere
+abbrev pub tick_next : ℕ → ℕ → ℕ → Option ℕ
+tick_next cursor hi now =
+    if nat_lt 1 (now - physical cursor) then Some now
+    else if nat_lt 131072 (logical cursor) then Some (physical cursor + 1)
+    else if nat_le hi (physical cursor) then Some (physical cursor + 1)
+    else None
+
+-- a tick saves a new end where at most a millisecond is left of the held window
+abbrev pub saves_for : ℕ → ℕ → Bool
+saves_for next hi = nat_le (hi - next) 1

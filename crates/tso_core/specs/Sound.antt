@@ -1,48 +1,106 @@
--- What every state of the machine keeps.
-use Rattle.std.specs.Prelude.{◌≡◌, ◌≢◌, ◌⊎◌, ℕ, ◌+◌, ◌*◌, ◌<◌, ◌≤◌, List, [], ◌∷◌}
-use Rattle.pd_types.specs.declared.oracle.Batch.{Batch}
-use Rattle.pd_types.specs.declared.oracle.CellWord.{CellWord}
-use Rattle.pd_types.specs.declared.oracle.Window.{Window}
-use Rattle.pd_types.specs.declared.stamp.TheConstants.{LOGICAL}
-use Rattle.tso_core.specs.declared.machine.TheConstants.{CLOCK_END, LAST_TERM}
-use Rattle.tso_core.specs.Draws.{LiesInOne, Rises}
-use Rattle.tso_core.specs.Oracle.{Oracle}
-use Rattle.tso_core.specs.Windows.{ReachesCell}
+-- The state invariant of the oracle: that of its words, views and lists, and where each actor stands.
+use Rattle.std.specs.Prelude.{◌≡◌, ◌⊎◌, ℕ, ◌+◌, ◌^◌, ◌<◌, ◌≤◌, true, false, List, length, get_or}
+use Rattle.tso_model.specs.declared.view.View.{View}
+use Rattle.tso_model.specs.declared.view.Setup.{Setup}
+use Rattle.tso_model.specs.Lists.{total, times}
+use Rattle.tso_model.specs.Words.{IsOpen}
+use Rattle.tso_model.specs.declared.step.WordStep.{WordStep}
+use Rattle.tso_model.specs.Steps.{held, May}
+use Rattle.tso_model.specs.Moves.{blank, spent_view}
+use Rattle.tso_model.specs.Ledger.{Recorded}
+use Rattle.tso_core.specs.declared.turn.Turn.{Turn}
+use Rattle.tso_core.specs.declared.reply.Due.{Due}
+use Rattle.tso_core.specs.declared.reply.Due.TheVariants.{Rest, Campaign, Save, Raise, Publish, Arm, Draw}
+use Rattle.tso_core.specs.Plan.{end_of}
+use Rattle.tso_core.specs.Whole.{Whole, place_of_client, view_at, turn_at}
 
--- a cell that a script may open with, or a save leaves
-pub record InRange (cell : CellWord) : Type 0 where
-  pub saved : cell.saved < CLOCK_END
-  pub term : cell.term ≤ LAST_TERM
+-- the view of the driver d
+pub record IsDriver (d : ℕ) (v : View) : Type 0 where
+  pub live : v.spent ≡ false
+  pub driver : v.driver ≡ d
+  pub quota : v.quota ≤ 262144
 
--- the batch was drawn by now: its term is no later than the cell's, its last is at or below the cursor
-pub record IsDrawn (o : Oracle) (b : Batch) : Type 0 where
-  pub term : b.term ≤ o.cell.term
-  pub last : b.last ≤ o.cursor
-  pub inside : LiesInOne o.windows b
+-- the view of the client c, which knows no cell but the opening one
+pub record IsClient (k : Setup) (c : ℕ) (v : View) : Type 0 where
+  pub live : v.spent ≡ false
+  pub client : v.client ≡ c
+  pub driver : v.driver ≡ 0
+  pub cell : v.cell ≡ k.cell
+  pub quota : v.quota ≡ 262144
 
--- each of the list was
-abbrev pub AllDrawn : Oracle → List Batch → Type 0
-AllDrawn o [] = Unit {0}
-AllDrawn o (b ∷ bs) = IsDrawn o b × AllDrawn o bs
+-- a term is held with the mark that the cursor was raised to its start
+abbrev pub IsSettled : View → Type 0
+IsSettled v = v.holds ≡ true → v.marked ≡ true
 
--- the last window is the driver's, and the cursor was raised to its start
-pub record IsCurrent (cell : CellWord) (cursor holder : ℕ) (w : Window) : Type 0 where
-  pub term : w.term ≡ cell.term
-  pub driver : w.driver ≡ holder
-  pub hi : w.hi ≡ cell.saved
-  pub raised : w.lo * LOGICAL ≤ cursor
+-- a campaign is due: there is a term and a time left
+pub record MayCampaign (next : ℕ) (v : View) : Type 0 where
+  pub settled : IsSettled v
+  pub term : v.cell.term < 262143
+  pub above : v.cell.saved < next
+  pub clock : end_of next < 2 ^ 45
 
--- some window of the list is that
-abbrev pub HasCurrent : CellWord → ℕ → ℕ → List Window → Type 0
-HasCurrent cell cursor driver [] = ⊥
-HasCurrent cell cursor driver (w ∷ ws) = IsCurrent cell cursor driver w ⊎ HasCurrent cell cursor driver ws
+-- a save is due: the end is above the held one, and either this is the first save of the term or the window is marked
+pub record MaySave (next : ℕ) (v : View) : Type 0 where
+  pub holds : v.holds ≡ true
+  pub above : (held v).hi < end_of next
+  pub clock : end_of next < 2 ^ 45
+  pub start : (v.marked ≡ true) ⊎ (((held v).lo ≡ (held v).hi) × ((held v).hi ≤ next))
 
--- The state is sound: the cursor is within the saved time, the windows are a window list that ends at the cell, a limit word
--- names the last window, and the batches are a draw list inside the windows.
-pub record IsSound (o : Oracle) : Type 0 where
-  pub cell : InRange o.cell
-  pub cursor : o.cursor ≤ o.cell.saved * LOGICAL
-  pub windows : ReachesCell o.windows o.cell
-  pub limit : o.limit ≢ 0 → (o.limit ≡ o.cell.saved * LOGICAL + o.cell.term) × HasCurrent o.cell o.cursor 1 o.windows
-  pub drawn : AllDrawn o o.batches
-  pub rises : Rises o.batches
+-- a raise is due: it goes at most to the held end, and the window is marked by then
+pub record MayRaise (next : ℕ) (v : View) : Type 0 where
+  pub holds : v.holds ≡ true
+  pub below : next ≤ (held v).hi
+  pub start : (v.marked ≡ true) ⊎ (IsOpen (held v) × ((held v).lo ≤ next))
+
+-- what a driver's due says of its view
+abbrev pub StandsAt : Due → Turn → View → Type 0
+StandsAt Rest turn v = IsSettled v
+StandsAt Campaign turn v = MayCampaign turn.next v
+StandsAt Save turn v = MaySave turn.next v
+StandsAt Raise turn v = MayRaise turn.next v
+StandsAt Publish turn v = turn.publishes ≡ true → v.marked ≡ true
+StandsAt Arm turn v = Unit {0}
+StandsAt Draw turn v = Unit {0}
+
+-- the driver d with its turn
+pub record DriverFits (d : ℕ) (turn : Turn) (v : View) : Type 0 where
+  pub own : IsDriver d v
+  pub stands : StandsAt turn.due turn v
+
+-- the view at this place may make the step
+pub record MayMake (w : Whole) (id : ℕ) (step : WordStep) : Type 0 where
+  pub inside : id < length w.views
+  pub live : (view_at w id).spent ≡ false
+  pub quota : (view_at w id).quota ≤ 262144
+  pub may : May w.setup step (view_at w id)
+
+-- how often the view at this place waits as a note
+abbrev pub waiting : ℕ → List (List ℕ) → ℕ
+waiting id posts = total (λ (post : List ℕ). times id post) posts
+
+-- a note that waits: a copy of what was seen, and nothing else
+pub record IsNote (k : Setup) (views : List View) (id : ℕ) : Type 0 where
+  pub behind : k.drivers + k.clients < id
+  pub inside : id < length views
+  pub copy : get_or views id spent_view ≡ record (blank k.cell) { seen = (get_or views id spent_view).seen }
+
+-- the driver is one of the oracle's
+pub record HasDriver (k : Setup) (d : ℕ) : Type 0 where
+  pub pos : 0 < d
+  pub low : d ≤ k.drivers
+
+-- the client is one of the oracle's
+pub record HasClient (k : Setup) (c : ℕ) : Type 0 where
+  pub pos : 0 < c
+  pub low : c ≤ k.clients
+
+-- The invariant
+pub record IsSound (w : Whole) : Type 0 where
+  pub recorded : Recorded w.setup w.words w.views w.windows w.batches
+  pub wide : w.setup.drivers + w.setup.clients < length w.views
+  pub turns : length w.turns ≡ w.setup.drivers + 1
+  pub posts : length w.posts ≡ w.setup.clients + 1
+  pub drivers : (d : ℕ) → 0 < d → d ≤ w.setup.drivers → DriverFits d (turn_at w d) (view_at w d)
+  pub clients : (c : ℕ) → 0 < c → c ≤ w.setup.clients → IsClient w.setup c (view_at w (place_of_client w c))
+  pub notes : (id : ℕ) → 0 < waiting id w.posts → IsNote w.setup w.views id
+  pub once : (id : ℕ) → waiting id w.posts ≤ 1

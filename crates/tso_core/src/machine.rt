@@ -1,141 +1,124 @@
-ghost use Rattle.std.specs.Prelude.{◌≡◌, ◌≢◌, ◌<◌, ◌≤◌, ◌^◌, IfOk, OnOk, OnErr};
-ghost use Rattle.tso_core.specs.Machine.{opening, lead_of, take_of};
+// The words, the seats and the turns in memory, and one atomic step of them.
+ghost use Rattle.std.specs.Prelude.{◌≡◌, ℕ, ◌+◌, ◌<◌, ◌≤◌, length, slice_index, slice_set, OnOk};
+ghost use Rattle.tso_model.specs.Steps.{word_of, word_after, view_after};
+ghost use Rattle.tso_model.specs.Ledger.{windows_after, batches_after};
+ghost use Rattle.tso_core.specs.Seat.{view_of, HasRoom, UsesOne, IsReady};
+ghost use Rattle.tso_core.specs.Lists.{HasRows, UsesRow};
+ghost use Rattle.tso_core.specs.Whole.{view_at, turn_at, found_by, made, turned};
+ghost use Rattle.tso_core.specs.Sound.{IsSound, MayMake};
+ghost use Rattle.tso_core.specs.Machine.{whole_of, RoomAt, UsesOneAt};
 
-use crate::Reply;
-use pd_types::{Batch, Batches, CellWord, LOGICAL, NoMemory, Window, Windows};
-use std::alloc::Global;
-use std::marker::Model;
+use crate::decided::Decided;
+use crate::lists::Lists;
+use crate::post::Post;
+use crate::seat::Seat;
+use crate::{Reply, Turn};
+use pd_types::NoMemory;
+use tso_model::{Setup, WordStep};
 
-/// The greatest term. A cell that has it answers `TermsSpent` to every lead.
-pub const LAST_TERM: u64 = 262143;
-
-/// The end of the clock, in milliseconds since the epoch: a saved time is below it.
-pub const CLOCK_END: u64 = 1 << 45;
-
-/// How far a lead saves ahead of its start, in milliseconds.
-pub const WINDOW: u64 = 3000;
-
-/// The timestamp oracle of one driver and one client. Contracts see it as its words, the windows
-/// of all terms and the batches of all draws; that these stay sound is the invariant of the type.
+/// The oracle without the lists of its run.
 #[derive(Drop)]
-pub struct Core {
-    cell: CellWord,
-    limit: u64,
-    cursor: u64,
-    windows: Windows,
-    batches: Batches,
+pub struct Machine {
+    pub setup: Setup,
+    pub words: Vec<u64>,
+    pub seats: Vec<Seat>,
+    pub turns: Vec<Turn>,
+    pub posts: Vec<Post>,
 }
 
-impl Model for Core {
-    ghost use Rattle.tso_core.specs.Oracle.{Oracle};
+impl Machine {
+    /// Makes room for `n` more steps of the seat at this place. Want of memory leaves the state.
+    pub fn reserve(&mut self, lists: &mut Lists, id: usize, n: usize) -> Result<(), NoMemory>
+        requires inside { id < length (whole_of self.old lists.old).views }
+        ensures whole { whole_of self.new lists.new ≡ whole_of self.old lists.old }
+        ensures setup { self.new.setup ≡ self.old.setup }
+        ensures room { OnOk result (RoomAt n id self.new lists.new) }
+    {
+        self.seats[id].reserve(n)?;
+        lists.reserve(n)
+    }
 
-    ghost Value = { Oracle };
+    /// Makes the step of the seat at this place, and answers the word that it found.
+    pub fn make(&mut self, lists: &mut Lists, id: usize, step: WordStep) -> u64
+        requires sound { IsSound (whole_of self.old lists.old) }
+        requires may { MayMake (whole_of self.old lists.old) id step }
+        requires room { RoomAt 1 id self.old lists.old }
+        ensures found { result ≡ found_by (whole_of self.old lists.old) id step }
+        ensures after { whole_of self.new lists.new ≡ made (whole_of self.old lists.old) id step }
+        ensures setup { self.new.setup ≡ self.old.setup }
+        ensures turns { self.new.turns.items ≡ self.old.turns.items }
+        ensures room { UsesOneAt id self.old lists.old self.new lists.new }
+    {
+        take_step(&mut self.words, &mut self.seats[id], lists, step)
+    }
 
-    ghost use Rattle.tso_core.specs.Sound.{IsSound};
+    /// The word that the step of the seat at this place would find.
+    pub fn peek(&self, lists: &Lists, id: usize, step: WordStep) -> u64
+        requires sound { IsSound (whole_of self.now lists.now) }
+        requires may { MayMake (whole_of self.now lists.now) id step }
+        ensures found { result ≡ found_by (whole_of self.now lists.now) id step }
+    {
+        self.words[self.seat(lists, id).place(step)]
+    }
 
-    ghost view = { λ c. record { cell = c.cell; limit = c.limit; cursor = c.cursor; windows = c.windows; batches = c.batches } };
+    /// The seat at this place.
+    pub fn seat(&self, lists: &Lists, id: usize) -> &Seat
+        requires inside { id < length (whole_of self.now lists.now).views }
+        ensures view { view_of result.now ≡ view_at (whole_of self.now lists.now) id }
+    {
+        &self.seats[id]
+    }
 
-    ghost invariant = { λ c. IsSound (record { cell = c.cell; limit = c.limit; cursor = c.cursor; windows = c.windows; batches = c.batches }) };
+    /// Makes a driver's step, after which it stands as it was decided, and answers.
+    pub fn drive(
+        &mut self,
+        lists: &mut Lists,
+        driver: u8,
+        step: WordStep,
+        decided: Decided,
+    ) -> Reply
+        requires sound { IsSound (whole_of self.old lists.old) }
+        requires low { driver ≤ self.old.setup.drivers }
+        requires may { MayMake (whole_of self.old lists.old) driver step }
+        requires room { RoomAt 1 driver self.old lists.old }
+        ensures reply { result ≡ decided.reply }
+        ensures after { whole_of self.new lists.new ≡ turned (made (whole_of self.old lists.old) driver step) driver decided.turn }
+        ensures setup { self.new.setup ≡ self.old.setup }
+        ensures room { UsesOneAt driver self.old lists.old self.new lists.new }
+    {
+        let id = driver as usize;
+        self.make(lists, id, step);
+        self.turns[id] = decided.turn;
+        decided.reply
+    }
+
+    /// Where the driver stands.
+    pub fn turn(&self, lists: &Lists, driver: u8) -> Turn
+        requires sound { IsSound (whole_of self.now lists.now) }
+        requires low { driver ≤ self.now.setup.drivers }
+        ensures value { result ≡ turn_at (whole_of self.now lists.now) driver }
+    {
+        self.turns[driver as usize]
+    }
 }
 
-impl Core {
-    ghost use Rattle.tso_core.specs.Sound.{InRange};
-
-    /// An oracle over an opening cell. The driver holds no term.
-    pub fn new(alloc: Global, drivers: u8, clients: u8, cell: CellWord) -> Result<Core, NoMemory>
-        requires drivers { drivers ≡ 1 }
-        requires clients { clients ≡ 1 }
-        requires cell { InRange cell }
-        ensures opening { IfOk result (λ core. core ≡ opening cell) }
-    {
-        let mut windows = Windows::new(alloc);
-        windows.push(Window {
-            term: cell.term,
-            driver: 0,
-            lo: cell.saved,
-            hi: cell.saved,
-        })?;
-        Ok(Core {
-            cell,
-            limit: 0,
-            cursor: 0,
-            windows,
-            batches: Batches::new(alloc),
-        })
-    }
-
-    /// A whole campaign of the driver at a moment, in milliseconds: it claims the next term, saves
-    /// the end of its window, raises its cursor and publishes its limit. `Won`, `TermsSpent` or
-    /// `ClockRange`; the refusals leave the driver as it was, also one that holds a term.
-    pub fn lead(&mut self, driver: u8, now: u64) -> Result<Reply, NoMemory>
-        requires driver { driver ≡ 1 }
-        requires moment { now < 2 ^ 46 }
-        ensures reply { IfOk result (λ reply. reply ≡ (lead_of self.old driver now).reply) }
-        ensures after { OnOk result (self.new ≡ (lead_of self.old driver now).after) }
-        ensures err { OnErr result (self.new ≡ self.old) }
-    {
-        if self.cell.term == LAST_TERM {
-            return Ok(Reply::TermsSpent);
-        }
-        let lo = now.max(self.cell.saved + 1);
-        let hi = lo + WINDOW;
-        if hi >= CLOCK_END {
-            return Ok(Reply::ClockRange);
-        }
-        let term = self.cell.term + 1;
-        self.windows.push(Window {
-            term,
-            driver,
-            lo,
-            hi,
-        })?;
-        self.cell = CellWord { saved: hi, term };
-        self.cursor = self.cursor.max(lo * LOGICAL);
-        self.limit = hi * LOGICAL + term;
-        Ok(Reply::Won { term, lo, hi })
-    }
-
-    /// A whole draw of `n` timestamps by the client at the driver. `Got`; `NotLeader` where the
-    /// driver has published no limit; `Again` where the draw passes the limit or the logical part.
-    pub fn take(&mut self, client: u8, driver: u8, n: u64) -> Result<Reply, NoMemory>
-        requires client { client ≡ 1 }
-        requires driver { driver ≡ 1 }
-        requires some { 0 < n }
-        requires most { n ≤ 262143 }
-        ensures reply { IfOk result (λ reply. reply ≡ (take_of self.old driver n).reply) }
-        ensures after { OnOk result (self.new ≡ (take_of self.old driver n).after) }
-        ensures err { OnErr result (self.new ≡ self.old) }
-    {
-        if self.limit == 0 {
-            return Ok(Reply::NotLeader);
-        }
-        let hi = self.limit / LOGICAL;
-        let at = self.cursor;
-        if at + n >= hi * LOGICAL || at % LOGICAL + n >= LOGICAL {
-            return Ok(Reply::Again { at, hi, n });
-        }
-        let batch = Batch {
-            term: self.limit % LOGICAL,
-            driver,
-            last: at + n,
-            count: n,
-        };
-        self.batches.push(batch)?;
-        self.cursor = at + n;
-        Ok(Reply::Got { batch })
-    }
-
-    /// The opening window, then the window of each later term.
-    pub fn windows(&self) -> &Windows
-        ensures value { result.now ≡ self.now.windows }
-    {
-        &self.windows
-    }
-
-    /// The granted batches, in the order of the draws.
-    pub fn batches(&self) -> &Batches
-        ensures value { result.now ≡ self.now.batches }
-    {
-        &self.batches
-    }
+// One step of one seat, on the word that it touches and on the lists.
+fn take_step(words: &mut Vec<u64>, seat: &mut Seat, lists: &mut Lists, step: WordStep) -> u64
+    requires ready { IsReady step words.old.items lists.old.batches.items (view_of seat.old) }
+    requires seat { HasRoom 1 seat.old }
+    requires rows { HasRows 1 lists.old }
+    ensures found { result ≡ slice_index words.old.items (word_of step (view_of seat.old)) }
+    ensures words { words.new.items ≡ slice_set words.old.items (word_of step (view_of seat.old)) (word_after step (view_of seat.old) result) }
+    ensures view { view_of seat.new ≡ view_after step result (view_of seat.old) }
+    ensures windows { lists.new.windows.items ≡ windows_after step result (view_of seat.old) lists.old.windows.items }
+    ensures batches { lists.new.batches.items ≡ batches_after step result (view_of seat.old) lists.old.batches.items }
+    ensures seat { UsesOne seat.old seat.new }
+    ensures rows { UsesRow lists.old lists.new }
+{
+    let place = seat.place(step);
+    let found = words[place];
+    words[place] = seat.written(step, found);
+    lists.record(step, found, seat);
+    seat.apply(step, found);
+    found
 }

@@ -1,0 +1,19 @@
+use Rattle.pd_cluster.proofs.replay.step.Goals as goal
+
+pub returns-in-Resign-clause-reply : goal.returns-in-Resign-clause-reply
+returns-in-Resign-clause-reply c = rw (c.in-Resign.is) (c.resign.ensures.reply)
+
+pub returns-in-Tell-clause-reply : goal.returns-in-Tell-clause-reply
+returns-in-Tell-clause-reply c = rw (c.in-Tell.is) (c.tell.ensures.reply)
+
+pub returns-in-Hear-clause-reply : goal.returns-in-Hear-clause-reply
+returns-in-Hear-clause-reply c = rw (c.in-Hear.is) (c.hear.ensures.reply)
+
+pub returns-in-Raise-clause-reply : goal.returns-in-Raise-clause-reply
+returns-in-Raise-clause-reply c = rw (c.in-Raise.is) (c.step-in-Raise.ensures.reply)
+
+pub returns-in-Arm-clause-reply : goal.returns-in-Arm-clause-reply
+returns-in-Arm-clause-reply c = rw (c.in-Arm.is) (c.step-in-Arm.ensures.reply)
+
+pub returns-in-Draw-clause-reply : goal.returns-in-Draw-clause-reply
+returns-in-Draw-clause-reply c = rw (c.in-Draw.is) (c.step-in-Draw.ensures.reply)

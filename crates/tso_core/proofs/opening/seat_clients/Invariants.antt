@@ -1,0 +1,8 @@
+use Rattle.std.proofs.Common.{◌≡◌, ◌++◌, map}
+use Rattle.tso_model.specs.Moves.{numbers_from}
+use Rattle.tso_core.specs.Seat.{view_of}
+use Rattle.tso_core.specs.Whole.{client_view}
+use Rattle.tso_core.proofs.opening.seat_clients.Given as goal
+
+abbrev pub invariant-loop-index : goal.invariant-loop-index
+invariant-loop-index l = map view_of l.seats.items ≡ map view_of l.initial.seats.items ++ map (client_view l.setup) (numbers_from 1 l.index)

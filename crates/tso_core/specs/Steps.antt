@@ -1,0 +1,208 @@
+-- Each single step with its answer: what it finds decides what the actor does next.
+use Rattle.std.specs.Prelude.{ℕ, ◌+◌, ◌*◌, ◌/◌, ◌%◌, max, true, false, Option, None, Some, nat_eq, nat_lt, ◌==◌, if◌then◌else◌}
+use Rattle.pd_types.specs.declared.oracle.CellWord.{CellWord}
+use Rattle.pd_types.specs.declared.oracle.Seen.{Seen}
+use Rattle.pd_types.specs.declared.oracle.Window.{Window}
+use Rattle.pd_types.specs.declared.oracle.Actor.{Actor}
+use Rattle.pd_types.specs.declared.oracle.Actor.TheVariants.{Driver, Client, Store}
+use Rattle.tso_model.specs.declared.view.View.{View}
+use Rattle.tso_model.specs.declared.entries.Limit.{Limit}
+use Rattle.tso_model.specs.declared.step.WordStep.{WordStep}
+use Rattle.tso_model.specs.declared.step.WordStep.TheVariants.{LoadCell, ClaimTerm, SaveEnd, RaiseCursor, StoreLimit, ClearLimit, LoadLimit, ArmCount, AddArmed}
+use Rattle.tso_model.specs.Words.{packed, cell_of, cell_word, passes}
+use Rattle.tso_model.specs.Steps.{held, hand, batch_of}
+use Rattle.tso_core.specs.declared.turn.Turn.{Turn}
+use Rattle.tso_core.specs.declared.decided.Decided.{Decided}
+use Rattle.tso_core.specs.declared.reply.Due.{Due}
+use Rattle.tso_core.specs.declared.reply.Due.TheVariants.{Rest, Campaign, Save, Raise, Publish, Arm, Draw}
+use Rattle.tso_core.specs.declared.reply.Kind.{Kind}
+use Rattle.tso_core.specs.declared.reply.Kind.TheVariants.{Read, Campaign as ToCampaign, Save as ToSave, Probe, Raise as ToRaise, Publish as ToPublish, Resign, Look, Arm as ToArm, Draw as ToDraw}
+use Rattle.tso_core.specs.declared.reply.Reply.{Reply}
+use Rattle.tso_core.specs.declared.reply.Reply.TheVariants.{Beaten, Lost, TermsSpent, ClockRange, Idle, NotLeading, Resigned, Got, Again, NotLeader, Stale, OutOfTurn, CellRead, Claimed, Saved, Raised, Probed, Published, Looked, Armed}
+use Rattle.tso_core.specs.Due.{same_due, due_for, at_rest}
+use Rattle.tso_core.specs.Plan.{end_of, past_clock, lead_next, tick_next, saves_for}
+use Rattle.tso_core.specs.Whole.{Whole, place_of_client, view_at, turn_at, found_by, made, turned}
+
+-- an answer, and the state after it
+pub record Stepped : Type 0 where
+  pub reply : Reply
+  pub after : Whole
+
+-- nothing changes, and the step that is next is named
+abbrev pub out_of_turn : Whole → Due → Stepped
+out_of_turn w due = record { reply = OutOfTurn due; after = w }
+
+-- the driver has answered, and stands there
+abbrev pub decided : Whole → ℕ → Decided → Stepped
+decided w d r = record { reply = r.reply; after = turned w d r.turn }
+
+-- a cell that was read at a moment: a campaign is next where there is a term and a time left
+abbrev pub read_decides : CellWord → ℕ → Decided
+read_decides cell now =
+    if nat_eq cell.term 262143 then record { reply = TermsSpent; turn = at_rest }
+    else if past_clock (lead_next cell.saved now) then record { reply = ClockRange; turn = at_rest }
+    else record { reply = CellRead cell; turn = record { due = Campaign; next = lead_next cell.saved now; publishes = true } }
+
+-- a driver reads the cell
+abbrev pub read_of : Whole → ℕ → ℕ → Stepped
+read_of w d now = decided (made w d LoadCell) d (read_decides (cell_of (found_by w d LoadCell)) now)
+
+-- the next term is claimed where the cell was still the known one, and a save is next
+abbrev pub campaign_decides : CellWord → ℕ → ℕ → Decided
+campaign_decides known next found =
+    if found == cell_word known then record { reply = Claimed (known.term + 1); turn = record { due = Save; next = next; publishes = true } }
+    else record { reply = Beaten (cell_of found); turn = at_rest }
+
+-- a driver campaigns
+abbrev pub campaign_of : Whole → ℕ → Stepped
+campaign_of w d = decided (made w d ClaimTerm) d (campaign_decides (view_at w d).cell (turn_at w d).next (found_by w d ClaimTerm))
+
+-- a later end is saved where the cell was the own window's end and term, and a raise is next; else a publish of 0
+abbrev pub save_decides : Window → ℕ → ℕ → Decided
+save_decides own next found =
+    if found == packed own.hi own.term then record { reply = Saved (end_of next); turn = record { due = Raise; next = next; publishes = true } }
+    else record { reply = Lost (cell_of found); turn = record { due = Publish; next = 0; publishes = false } }
+
+-- the save that is due for the driver
+abbrev pub its_save : Whole → ℕ → WordStep
+its_save w d = SaveEnd (end_of (turn_at w d).next)
+
+-- a driver saves
+abbrev pub save_of : Whole → ℕ → Stepped
+save_of w d = decided (made w d (its_save w d)) d (save_decides (held (view_at w d)) (turn_at w d).next (found_by w d (its_save w d)))
+
+-- the cursor is raised, and a publish is next where the end was saved
+abbrev pub raise_decides : Turn → ℕ → Decided
+raise_decides turn found = record {
+  reply = Raised (max found (turn.next * 262144));
+  turn = if turn.publishes then record { due = Publish; next = 0; publishes = true } else at_rest;
+}
+
+-- the raise that is due for the driver
+abbrev pub its_raise : Whole → ℕ → WordStep
+its_raise w d = RaiseCursor ((turn_at w d).next * 262144)
+
+-- a driver raises its cursor
+abbrev pub raise_of : Whole → ℕ → Stepped
+raise_of w d = decided (made w d (its_raise w d)) d (raise_decides (turn_at w d) (found_by w d (its_raise w d)))
+
+-- the publish that is due for the driver: of its window's end, or of 0 after a lost save
+abbrev pub its_publish : Whole → ℕ → WordStep
+its_publish w d = if (turn_at w d).publishes then StoreLimit else ClearLimit
+
+-- the end that it answers
+abbrev pub its_end : Whole → ℕ → ℕ
+its_end w d = if (turn_at w d).publishes then (held (view_at w d)).hi else 0
+
+-- a driver publishes
+abbrev pub publish_of : Whole → ℕ → Stepped
+publish_of w d = decided (made w d (its_publish w d)) d (record { reply = Published (its_end w d); turn = at_rest })
+
+-- a save is next where at most a millisecond of the held window is left, else a raise
+abbrev pub moves_to : ℕ → ℕ → ℕ → Decided
+moves_to hi cursor next =
+    if saves_for next hi then
+    (if past_clock next then record { reply = ClockRange; turn = at_rest }
+    else record { reply = Probed cursor; turn = record { due = Save; next = next; publishes = true } })
+    else record { reply = Probed cursor; turn = record { due = Raise; next = next; publishes = false } }
+
+-- what a tick does with the cursor that its probe found
+abbrev pub goes_to : ℕ → ℕ → Option ℕ → Decided
+goes_to hi cursor None = record { reply = Idle; turn = at_rest }
+goes_to hi cursor (Some next) = moves_to hi cursor next
+
+-- what a tick does over this held end, at this moment, with this cursor
+abbrev pub probe_decides : ℕ → ℕ → ℕ → Decided
+probe_decides hi now cursor = goes_to hi cursor (tick_next cursor hi now)
+
+-- a driver with a term reads its cursor at a moment
+abbrev pub probe_of : Whole → ℕ → ℕ → Stepped
+probe_of w d now =
+    if (view_at w d).holds then decided (made w d (RaiseCursor 0)) d (probe_decides (held (view_at w d)).hi now (found_by w d (RaiseCursor 0)))
+    else record { reply = NotLeading; after = w }
+
+-- a driver with a term stores 0 and holds none
+abbrev pub resign_of : Whole → ℕ → Stepped
+resign_of w d =
+    if (view_at w d).holds then decided (made w d ClearLimit) d (record { reply = Resigned; turn = at_rest })
+    else record { reply = NotLeading; after = w }
+
+-- what a limit word tells a client that has seen this
+abbrev pub looked_reply : ℕ → Seen → Reply
+looked_reply word seen =
+    if nat_eq word 0 then NotLeader
+    else if nat_lt (word % 262144) seen.term then Stale seen.term
+    else Looked (word % 262144) (word / 262144)
+
+-- a client loads the limit of a driver, and arms next where that isn't 0 nor of a term below the seen one
+abbrev pub look_of : Whole → ℕ → ℕ → Stepped
+look_of w c d = record { reply = looked_reply (found_by w (place_of_client w c) (LoadLimit d)) (view_at w (place_of_client w c)).seen; after = made w (place_of_client w c) (LoadLimit d) }
+
+-- what a cursor tells a client that arms n
+abbrev pub arm_reply : ℕ → ℕ → ℕ → Reply
+arm_reply at hi n = if passes at hi n then Again at hi n else Armed at
+
+-- a client loads the cursor, and draws next where n more fit
+abbrev pub arm_of : Whole → ℕ → ℕ → Stepped
+arm_of w c n = record {
+  reply = arm_reply (found_by w (place_of_client w c) (ArmCount n)) (hand (view_at w (place_of_client w c))).hi n;
+  after = made w (place_of_client w c) (ArmCount n);
+}
+
+-- what the cursor that a draw finds tells the client
+abbrev pub draw_reply : ℕ → View → Reply
+draw_reply at v = if passes at (hand v).hi v.armed then Again at (hand v).hi v.armed else Got (batch_of at v)
+
+-- a client adds what it armed, and has the batch where it still fits
+abbrev pub draw_of : Whole → ℕ → Stepped
+draw_of w c = record {
+  reply = draw_reply (found_by w (place_of_client w c) AddArmed) (view_at w (place_of_client w c));
+  after = made w (place_of_client w c) AddArmed;
+}
+
+-- what is next with this in hand and so much armed
+abbrev pub hand_due : Option Limit → ℕ → Due
+hand_due None armed = Rest
+hand_due (Some limit) armed = if nat_eq armed 0 then Arm else Draw
+
+-- what is next for a client: a look, with a limit in hand an arm, with a count armed a draw
+abbrev pub client_due : View → Due
+client_due v = hand_due v.hand v.armed
+
+-- what is next for an actor
+abbrev pub due_of : Whole → Actor → Due
+due_of w (Driver d) = (turn_at w d).due
+due_of w (Client c) = client_due (view_at w (place_of_client w c))
+due_of w (Store s) = Rest
+
+-- the step of a driver that is at this due
+abbrev pub driver_step : Whole → ℕ → Due → Kind → Stepped
+driver_step w d due (Read now) = read_of w d now
+driver_step w d due ToCampaign = campaign_of w d
+driver_step w d due ToSave = save_of w d
+driver_step w d due (Probe now) = probe_of w d now
+driver_step w d due ToRaise = raise_of w d
+driver_step w d due ToPublish = publish_of w d
+driver_step w d due Resign = resign_of w d
+driver_step w d due (Look e) = out_of_turn w due
+driver_step w d due (ToArm n) = out_of_turn w due
+driver_step w d due ToDraw = out_of_turn w due
+
+-- the step of a client that is at this due
+abbrev pub client_step : Whole → ℕ → Due → Kind → Stepped
+client_step w c due (Look d) = look_of w c d
+client_step w c due (ToArm n) = arm_of w c n
+client_step w c due ToDraw = draw_of w c
+client_step w c due (Read now) = out_of_turn w due
+client_step w c due ToCampaign = out_of_turn w due
+client_step w c due ToSave = out_of_turn w due
+client_step w c due (Probe now) = out_of_turn w due
+client_step w c due ToRaise = out_of_turn w due
+client_step w c due ToPublish = out_of_turn w due
+client_step w c due Resign = out_of_turn w due
+
+-- one step of any actor: what it is, where it is next for that actor, else nothing
+abbrev pub step_of : Whole → Actor → Kind → Stepped
+step_of w (Driver d) kind = if same_due (due_for kind) (turn_at w d).due then driver_step w d (turn_at w d).due kind else out_of_turn w (turn_at w d).due
+step_of w (Client c) kind = if same_due (due_for kind) (due_of w (Client c)) then client_step w c (due_of w (Client c)) kind else out_of_turn w (due_of w (Client c))
+step_of w (Store s) kind = out_of_turn w Rest

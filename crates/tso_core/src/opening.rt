@@ -1,0 +1,109 @@
+// A new oracle in memory.
+ghost use Rattle.std.specs.Prelude.{◌≡◌, ℕ, ◌+◌, ◌<◌, ◌≤◌, ◌^◌, List, [], ◌++◌, map, replicate, IfOk, OnOk};
+ghost use Rattle.tso_model.specs.Moves.{numbers_from, first_words};
+ghost use Rattle.tso_model.specs.Sound.{IsSetup};
+ghost use Rattle.tso_core.specs.Due.{at_rest};
+ghost use Rattle.tso_core.specs.Seat.{view_of};
+ghost use Rattle.tso_core.specs.Machine.{waits_in};
+ghost use Rattle.tso_core.specs.Whole.{driver_view, client_view};
+ghost use Rattle.tso_core.specs.Opened.{first_views};
+
+use crate::Turn;
+use crate::machine::Machine;
+use crate::post::Post;
+use crate::seat::Seat;
+use pd_types::{LOGICAL, NoMemory};
+use std::alloc::Global;
+use tso_model::Setup;
+
+// What each client may arm.
+const CLIENT_QUOTA: u64 = 262_144;
+
+impl Machine {
+    /// All actors at rest.
+    pub fn new(alloc: Global, setup: Setup) -> Result<Machine, NoMemory>
+        requires setup { IsSetup setup }
+        ensures setup { IfOk result (λ machine. machine.setup ≡ setup) }
+        ensures words { IfOk result (λ machine. machine.words.items ≡ first_words setup) }
+        ensures views { IfOk result (λ machine. map view_of machine.seats.items ≡ first_views setup) }
+        ensures turns { IfOk result (λ machine. machine.turns.items ≡ replicate (setup.drivers + 1) at_rest) }
+        ensures posts { IfOk result (λ machine. map waits_in machine.posts.items ≡ replicate (setup.clients + 1) []) }
+    {
+        let words = opening_words(alloc, setup)?;
+        let seats = opening_seats(alloc, setup)?;
+        let turns = opening_turns(alloc, setup.drivers)?;
+        let posts = opening_posts(alloc, setup.clients)?;
+        Ok(Machine {
+            setup,
+            words,
+            seats,
+            turns,
+            posts,
+        })
+    }
+}
+
+#[tactic(auto, using(crate::proofs::Started::first_set))]
+fn opening_words(alloc: Global, setup: Setup) -> Result<Vec<u64>, NoMemory>
+    requires setup { IsSetup setup }
+    ensures words { IfOk result (λ words. words.items ≡ first_words setup) }
+{
+    let mut words = vec![in alloc; 0u64; 2 * setup.drivers as usize + 1]?;
+    words[0] = setup.cell.saved * LOGICAL + setup.cell.term;
+    Ok(words)
+}
+
+fn opening_seats(alloc: Global, setup: Setup) -> Result<Vec<Seat>, NoMemory>
+    requires setup { IsSetup setup }
+    ensures views { IfOk result (λ seats. map view_of seats.items ≡ first_views setup) }
+{
+    let mut seats = Vec::new(alloc);
+    seats.push(Seat::new(alloc, setup.cell, 0, 0, 0))?;
+    seat_drivers(alloc, setup, &mut seats)?;
+    seat_clients(alloc, setup, &mut seats)?;
+    Ok(seats)
+}
+
+fn seat_drivers(alloc: Global, setup: Setup, seats: &mut Vec<Seat>) -> Result<(), NoMemory>
+    requires setup { IsSetup setup }
+    ensures ok { OnOk result (map view_of seats.new.items ≡ map view_of seats.old.items ++ map (driver_view setup) (numbers_from 1 setup.drivers)) }
+{
+    for index in 0..setup.drivers {
+        seats.push(Seat::new(alloc, setup.cell, index + 1, 0, 0))?;
+    }
+    Ok(())
+}
+
+fn seat_clients(alloc: Global, setup: Setup, seats: &mut Vec<Seat>) -> Result<(), NoMemory>
+    requires setup { IsSetup setup }
+    ensures ok { OnOk result (map view_of seats.new.items ≡ map view_of seats.old.items ++ map (client_view setup) (numbers_from 1 setup.clients)) }
+{
+    for index in 0..setup.clients {
+        seats.push(Seat::new(alloc, setup.cell, 0, index + 1, CLIENT_QUOTA))?;
+    }
+    Ok(())
+}
+
+// The first turn is nobody's.
+fn opening_turns(alloc: Global, drivers: u8) -> Result<Vec<Turn>, NoMemory>
+    requires few { drivers ≤ 7 }
+    ensures turns { IfOk result (λ turns. turns.items ≡ replicate (drivers + 1) at_rest) }
+{
+    let mut turns = Vec::new(alloc);
+    for _driver in 0..drivers + 1 {
+        turns.push(Turn::rest())?;
+    }
+    Ok(turns)
+}
+
+// The first post is nobody's.
+fn opening_posts(alloc: Global, clients: u8) -> Result<Vec<Post>, NoMemory>
+    requires few { clients ≤ 64 }
+    ensures posts { IfOk result (λ posts. map waits_in posts.items ≡ replicate (clients + 1) []) }
+{
+    let mut posts = Vec::new(alloc);
+    for _client in 0..clients + 1 {
+        posts.push(Post::new(alloc))?;
+    }
+    Ok(posts)
+}
