@@ -1,12 +1,14 @@
 //! Whole inputs, words and whole outputs.
 #![tactic(auto)]
 
+mod hexadecimal;
 mod input;
 mod output;
 #[cfg(test)]
 mod tests;
 mod words;
 
+pub use hexadecimal::key;
 pub use input::{ReadRefusal, read_all};
 pub use output::put_all;
 pub use words::{number, spells_its_number};

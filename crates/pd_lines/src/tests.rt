@@ -1,4 +1,4 @@
-use crate::{ReadRefusal, number, put_all, read_all};
+use crate::{ReadRefusal, key, number, put_all, read_all};
 use pd_io::{MemSink, MemSource, PutFault, SureSource};
 use std::test::Fail;
 
@@ -61,6 +61,34 @@ fn texts_are_written_whole_or_cut(rt: HostRuntime) -> Result<(), Fail> {
         let mut sink = MemSink::new(alloc, 3, vec![in alloc; fails]?);
         assert_eq!(rt; put_all(&mut sink, b"abcdefg"), wanted);
         assert_eq!(rt; sink.bytes(), written);
+    }
+    Ok(())
+}
+
+// Words with the key that they spell.
+const KEYS: [(&[u8], Option<&[u8]>); 12] = [
+    (b"-", Some(b"")),
+    (b"61", Some(b"a")),
+    (b"00ff", Some(b"\x00\xff")),
+    (b"aBcD", Some(b"\xab\xcd")),
+    (
+        b"7480000000000000FF",
+        Some(b"t\x80\x00\x00\x00\x00\x00\x00\xff"),
+    ),
+    (b"6", None),
+    (b"616", None),
+    (b"6g", None),
+    (b"--", None),
+    (b"-61", None),
+    (b"0x61", None),
+    (b"6 1", None),
+];
+
+#[test]
+fn keys_are_spelled_in_hexadecimal_digits(rt: HostRuntime) -> Result<(), Fail> {
+    for (word, expected) in KEYS {
+        let spelled = key(rt.alloc(), word)?;
+        assert_eq!(rt; spelled.as_ref().map(|bytes| bytes.as_slice()), expected);
     }
     Ok(())
 }

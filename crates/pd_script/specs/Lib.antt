@@ -1,4 +1,5 @@
 pub mod Grammar
+pub mod Lawful
 pub mod Numbering
 pub mod Places
 pub mod Refusals

@@ -1,6 +1,7 @@
 // A script from its text.
 ghost use Rattle.std.specs.Prelude.{◌≡◌, ◌≤◌, ◌++◌, All, IfErr, IfOk, OnOk, length, map};
 ghost use Rattle.pd_script.specs.Grammar.{events_of};
+ghost use Rattle.pd_script.specs.Lawful.{IsLawfulScript};
 ghost use Rattle.pd_script.specs.Refusals.{IsFault, IsRefusal, kept};
 ghost use Rattle.pd_script.specs.Scripts.{client_of, driver_of, line_of, script_of};
 
@@ -80,6 +81,7 @@ fn lines_of(alloc: Global, events: &[Numbered]) -> Result<Vec<Line>, NoMemory>
 pub fn read_script(alloc: Global, text: &[u8], mode: Mode) -> Result<Script, ScriptRefusal>
     requires { length text.now ≤ 16777216 }
     ensures ok { IfOk result (λ script. script_of mode text.now ≡ Ok script) }
+    ensures lawful { IfOk result (IsLawfulScript mode) }
     ensures refused { IfErr result (IsRefusal (script_of mode text.now)) }
 {
     let events = match read_events(alloc, text, mode) {

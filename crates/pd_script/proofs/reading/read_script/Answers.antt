@@ -1,3 +1,5 @@
+use Rattle.std.proofs.Common.{rules}
+use Rattle.pd_script.proofs.Lawful.{lawful}
 use Rattle.pd_script.proofs.Unbroken.{clients_within, drivers_within}
 use Rattle.pd_script.proofs.reading.read_script.Goals as goal
 
@@ -6,3 +8,6 @@ lines_of-requires-clause-drivers c = rw (c.deref-2.ensures.value) (drivers_withi
 
 pub lines_of-requires-clause-clients : goal.lines_of-requires-clause-clients
 lines_of-requires-clause-clients c = rw (c.deref-2.ensures.value) (clients_within _ (rw (c.deref.ensures.value) at c.in_default.ensures.value))
+
+pub returns-in-Ok-lines_of-clause-lawful : goal.returns-in-Ok-lines_of-clause-lawful
+returns-in-Ok-lines_of-clause-lawful c = lawful c.args.mode c.args.text.now _ (search rules)

@@ -1,0 +1,237 @@
+-- The script of a text is lawful.
+use Rattle.std.proofs.Common.{◌≡◌, ◌<◌, ◌≤◌, ℕ, ◌+◌, List, [], ◌∷◌, Bool, true, false, cond, map, max, get_or, nat_le, Option, Some, None, refl, sym, ap, subst, ◌∙◌, arith}
+use Rattle.std.specs.Prelude.{Result, Ok, Err, ◌&&◌}
+use Rattle.std.proofs.lemmas.Bool.Decides.{nat_tests}
+use Rattle.pd_lines.specs.Numeral.{number_of}
+use Rattle.pd_script.specs.Grammar.{AtFault, and_event, and_line, and_number, arity, by_verb, content_of, event_of, events_from, events_of, has_bad_byte, is_passed_over, listed, numbers_of, padded, raw_content, read_places, some_event, unless, with_numbers}
+use Rattle.pd_script.specs.Lawful.{AreLawful, IsCount, IsLawful, IsLawfulScript, IsOneOf, standing_of}
+use Rattle.pd_script.specs.Places.{least, most, read_place, within}
+use Rattle.pd_script.specs.Scripts.{act_by, broken_by, client_of, driver_of, greatest, line_of, script_by, script_of, unless_broken}
+use Rattle.pd_script.specs.Table.{is_misplaced, row, verb_of}
+use Rattle.pd_script.specs.Words.{RawLine, raw_lines, words}
+use Rattle.pd_script.specs.declared.limits.Broken.{Broken}
+use Rattle.pd_script.specs.declared.place.Place.{Place}
+use Rattle.pd_script.specs.declared.refusal.Reason.{Reason}
+use Rattle.pd_script.specs.declared.refusal.Reason.TheVariants.{BadByte, MissingWord, ExtraWord, BadNumber, OutOfRange, Misplaced, NoNewline, UnknownWord}
+use Rattle.pd_script.specs.declared.refusal.ScriptRefusal.{ScriptRefusal}
+use Rattle.pd_script.specs.declared.refusal.ScriptRefusal.TheVariants.{Fault, Limit}
+use Rattle.pd_script.specs.declared.script.Mode.{Mode}
+use Rattle.pd_script.specs.declared.script.Script.{Script}
+use Rattle.pd_script.specs.declared.verb.Event.{Event}
+use Rattle.pd_script.specs.declared.verb.Numbered.{Numbered}
+use Rattle.pd_script.specs.declared.verb.Numbers.{Numbers}
+use Rattle.pd_script.specs.declared.verb.Places.{Places}
+use Rattle.pd_script.specs.declared.verb.Places.TheVariants.{One, Two, Three}
+use Rattle.pd_script.specs.declared.verb.Verb.{Verb}
+use Rattle.pd_script.specs.declared.verb.Verb.TheVariants.{Cell, Lead, Tick, Resign, Take, Tell, Hear, Read, Campaign, Save, Raise, Publish, Probe, Look, Arm, Draw}
+use Rattle.pd_script.proofs.Greatest.{at_least_one}
+use Rattle.pd_script.proofs.Unbroken.{greatest_within}
+
+-- results
+abbrev or_else : {A B : Type 0} → A → Result A B → A
+or_else a (Ok x) = x
+or_else a (Err e) = a
+
+abbrev IsFine : {A B : Type 0} → Result A B → Type 0
+IsFine (Ok x) = Unit {0}
+IsFine (Err e) = ⊥
+
+no_fine : {A B C : Type 0} (e : B) (x : A) → (let r : Result A B = Err e in r) ≡ Ok x → C
+no_fine e x is = absurd (subst IsFine (sym is) tt)
+
+same_ok : {A B : Type 0} (x y : A) → (let r : Result A B = Ok x in r) ≡ Ok y → x ≡ y
+same_ok x y is = ap (or_else x) is
+
+-- a number in range
+record InPlace (p : Place) (n : ℕ) : Type 0 where
+  low : least p ≤ n
+  high : n ≤ most p
+
+within_range : (p : Place) (n m : ℕ) (a b : Bool) → a ≡ nat_le (least p) n → b ≡ nat_le n (most p) → cond {A = Result ℕ Reason} (a && b) (Ok n) (Err OutOfRange) ≡ Ok m → InPlace p m
+within_range p n m true true low high is = subst (λ (x : ℕ). InPlace p x) (same_ok n m is) (record { low = grind (arith, nat_tests, low); high = grind (arith, nat_tests, high) })
+within_range p n m true false low high is = no_fine OutOfRange m is
+within_range p n m false b low high is = no_fine OutOfRange m is
+
+in_place : (p : Place) (o : Option ℕ) (n : ℕ) → within p o ≡ Ok n → InPlace p n
+in_place p None n is = no_fine BadNumber n is
+in_place p (Some m) n is = within_range p m n (nat_le (least p) m) (nat_le m (most p)) refl refl is
+
+abbrev AllIn : List Place → List ℕ → Type 0
+AllIn [] ns = Unit {0}
+AllIn (p ∷ ps) [] = ⊥
+AllIn (p ∷ ps) (n ∷ ns) = InPlace p n × AllIn ps ns
+
+both_fine : (p : Place) (ps : List Place) (first : Result ℕ Reason) (rest : Result (List ℕ) Reason) (ns : List ℕ) → ((n : ℕ) → first ≡ Ok n → InPlace p n) → ((ms : List ℕ) → rest ≡ Ok ms → AllIn ps ms) → and_number first rest ≡ Ok ns → AllIn (p ∷ ps) ns
+both_fine p ps (Err e) rest ns low high is = no_fine e ns is
+both_fine p ps (Ok n) (Err e) ns low high is = no_fine e ns is
+both_fine p ps (Ok n) (Ok ms) ns low high is = subst (λ (l : List ℕ). AllIn (p ∷ ps) l) (same_ok (n ∷ ms) ns is) (low n refl, high ms refl)
+
+abbrev IsNone : Option Reason → Type 0
+IsNone None = Unit {0}
+IsNone (Some r) = ⊥
+
+all_in : (ps : List Place) (ws : List (List ℕ)) (ns : List ℕ) → arity ps ws ≡ None → read_places ps ws ≡ Ok ns → AllIn ps ns
+all_in [] ws ns right is = tt
+all_in (p ∷ ps) [] ns right is = absurd (subst IsNone (sym right) tt)
+all_in (p ∷ ps) (w ∷ ws) ns right is = both_fine p ps (read_place p w) (read_places ps ws) ns (λ n e. in_place p (number_of w) n e) (λ ms e. all_in ps ws ms right e) is
+
+-- the numbers of an event are in the ranges of its places
+abbrev InRange : Places → Numbers → Type 0
+InRange (One p) n = InPlace p n.first
+InRange (Two p q) n = InPlace p n.first × InPlace q n.second
+InRange (Three p q r) n = InPlace p n.first × InPlace q n.second × InPlace r n.third
+
+by_places : (places : Places) (ns : List ℕ) → AllIn (listed places) ns → InRange places (record { first = get_or ns 0 0; second = get_or ns 1 0; third = get_or ns 2 0 })
+by_places (One p) [] all = absurd all
+by_places (One p) (a ∷ ns) all = all.0
+by_places (Two p q) [] all = absurd all
+by_places (Two p q) (a ∷ []) all = absurd all.1
+by_places (Two p q) (a ∷ b ∷ ns) all = (all.0, all.1.0)
+by_places (Three p q r) [] all = absurd all
+by_places (Three p q r) (a ∷ []) all = absurd all.1
+by_places (Three p q r) (a ∷ b ∷ []) all = absurd all.1.1
+by_places (Three p q r) (a ∷ b ∷ c ∷ ns) all = (all.0, all.1.0, all.1.1.0)
+
+padded_in : (places : Places) (r : Result (List ℕ) Reason) (numbers : Numbers) → ((ns : List ℕ) → r ≡ Ok ns → AllIn (listed places) ns) → padded r ≡ Ok numbers → InRange places numbers
+padded_in places (Err e) numbers all is = no_fine e numbers is
+padded_in places (Ok ns) numbers all is = subst (λ (n : Numbers). InRange places n) (same_ok (record { first = get_or ns 0 0; second = get_or ns 1 0; third = get_or ns 2 0 }) numbers is) (by_places places ns (all ns refl))
+
+unless_in : (places : Places) (ws : List (List ℕ)) (wrong : Option Reason) → arity (listed places) ws ≡ wrong → (ns : List ℕ) → unless wrong (read_places (listed places) ws) ≡ Ok ns → AllIn (listed places) ns
+unless_in places ws None right ns is = all_in (listed places) ws ns right is
+unless_in places ws (Some e) right ns is = no_fine e ns is
+
+numbers_in : (places : Places) (ws : List (List ℕ)) (numbers : Numbers) → numbers_of places ws ≡ Ok numbers → InRange places numbers
+numbers_in places ws numbers is = padded_in places (unless (arity (listed places) ws) (read_places (listed places) ws)) numbers (unless_in places ws (arity (listed places) ws) refl) is
+
+-- an event that was read
+record IsRead (mode : Mode) (first : Bool) (e : Event) : Type 0 where
+  placed : is_misplaced mode first (row e.verb).standing ≡ false
+  range : InRange (row e.verb).places e.numbers
+
+with_read : (mode : Mode) (first : Bool) (verb : Verb) (r : Result Numbers Reason) (e : Event) → is_misplaced mode first (row verb).standing ≡ false → ((n : Numbers) → r ≡ Ok n → InRange (row verb).places n) → with_numbers verb r ≡ Ok e → IsRead mode first e
+with_read mode first verb (Err reason) e placed range is = no_fine reason e is
+with_read mode first verb (Ok n) e placed range is = subst (λ (x : Event). IsRead mode first x) (same_ok (record { verb = verb; numbers = n }) e is) (record { placed = placed; range = range n refl })
+
+placed_read : (mode : Mode) (first : Bool) (ws : List (List ℕ)) (verb : Verb) (e : Event) (bad : Bool) → is_misplaced mode first (row verb).standing ≡ bad → cond {A = Result Event Reason} bad (Err Misplaced) (with_numbers verb (numbers_of (row verb).places ws)) ≡ Ok e → IsRead mode first e
+placed_read mode first ws verb e true placed is = no_fine Misplaced e is
+placed_read mode first ws verb e false placed is = with_read mode first verb (numbers_of (row verb).places ws) e placed (λ n same. numbers_in (row verb).places ws n same) is
+
+verb_read : (mode : Mode) (first : Bool) (ws : List (List ℕ)) (o : Option Verb) (e : Event) → by_verb mode first ws o ≡ Ok e → IsRead mode first e
+verb_read mode first ws None e is = no_fine UnknownWord e is
+verb_read mode first ws (Some verb) e is = placed_read mode first ws verb e (is_misplaced mode first (row verb).standing) refl is
+
+event_read : (mode : Mode) (first : Bool) (ws : List (List ℕ)) (e : Event) → event_of mode first ws ≡ Ok e → IsRead mode first e
+event_read mode first [] e is = no_fine UnknownWord e is
+event_read mode first (w ∷ ws) e is = verb_read mode first ws (verb_of w) e is
+
+-- what a line may be
+abbrev MayBe : Mode → Bool → Result (Option Event) Reason → Type 0
+MayBe mode first (Err reason) = Unit {0}
+MayBe mode first (Ok None) = Unit {0}
+MayBe mode first (Ok (Some e)) = IsRead mode first e
+
+some_may : (mode : Mode) (first : Bool) (r : Result Event Reason) → ((e : Event) → r ≡ Ok e → IsRead mode first e) → MayBe mode first (some_event r)
+some_may mode first (Err reason) read = tt
+some_may mode first (Ok e) read = read e refl
+
+may_cond : (mode : Mode) (first : Bool) (b : Bool) (x y : Result (Option Event) Reason) → MayBe mode first x → MayBe mode first y → MayBe mode first (cond b x y)
+may_cond mode first true x y hit miss = hit
+may_cond mode first false x y hit miss = miss
+
+content_may : (mode : Mode) (first : Bool) (line : List ℕ) → MayBe mode first (content_of mode first line)
+content_may mode first line = may_cond mode first (is_passed_over (words line)) (Ok None) (cond (has_bad_byte line) (Err BadByte) (some_event (event_of mode first (words line)))) tt
+    (may_cond mode first (has_bad_byte line) (Err BadByte) (some_event (event_of mode first (words line))) tt (some_may mode first (event_of mode first (words line)) (λ e is. event_read mode first (words line) e is)))
+
+raw_may : (mode : Mode) (first : Bool) (raw : RawLine) → MayBe mode first (raw_content mode first raw)
+raw_may mode first raw = may_cond mode first raw.ended (content_of mode first raw.bytes) (Err NoNewline) (content_may mode first raw.bytes) tt
+
+-- all events that were read
+abbrev AreRead : Mode → Bool → List Numbered → Type 0
+AreRead mode first [] = Unit {0}
+AreRead mode first (e ∷ es) = IsRead mode first e.event × AreRead mode false es
+
+event_front : (mode : Mode) (first : Bool) (number : ℕ) (e : Event) (r : Result (List Numbered) AtFault) (events : List Numbered) → IsRead mode first e → ((es : List Numbered) → r ≡ Ok es → AreRead mode false es) → and_event number e r ≡ Ok events → AreRead mode first events
+event_front mode first number e (Err fault) events one rest is = no_fine fault events is
+event_front mode first number e (Ok es) events one rest is = subst (λ (l : List Numbered). AreRead mode first l) (same_ok (record { number = number; event = e } ∷ es) events is) (one, rest es refl)
+
+line_front : (mode : Mode) (first : Bool) (number : ℕ) (content : Result (Option Event) Reason) (passed read : Result (List Numbered) AtFault) (events : List Numbered) → MayBe mode first content
+    → ((es : List Numbered) → passed ≡ Ok es → AreRead mode first es) → ((es : List Numbered) → read ≡ Ok es → AreRead mode false es) → and_line number content passed read ≡ Ok events → AreRead mode first events
+line_front mode first number (Err reason) passed read events may over behind is = no_fine (record { line = number; reason = reason }) events is
+line_front mode first number (Ok None) passed read events may over behind is = over events is
+line_front mode first number (Ok (Some e)) passed read events may over behind is = event_front mode first number e read events may behind is
+
+all_read : (mode : Mode) (number : ℕ) (first : Bool) (raws : List RawLine) (events : List Numbered) → events_from mode number first raws ≡ Ok events → AreRead mode first events
+all_read mode number first [] events is = subst (λ (l : List Numbered). AreRead mode first l) (same_ok [] events is) tt
+all_read mode number first (raw ∷ raws) events is = line_front mode first number (raw_content mode first raw) (events_from mode (number + 1) first raws) (events_from mode (number + 1) false raws) events (raw_may mode first raw)
+    (λ es same. all_read mode (number + 1) first raws es same) (λ es same. all_read mode (number + 1) false raws es same) is
+
+-- the act of an event that was read
+same_standing : (verb : Verb) (n : Numbers) → standing_of (act_by verb n) ≡ (row verb).standing
+same_standing Cell n = refl
+same_standing Lead n = refl
+same_standing Tick n = refl
+same_standing Resign n = refl
+same_standing Take n = refl
+same_standing Tell n = refl
+same_standing Hear n = refl
+same_standing Read n = refl
+same_standing Campaign n = refl
+same_standing Save n = refl
+same_standing Raise n = refl
+same_standing Publish n = refl
+same_standing Probe n = refl
+same_standing Look n = refl
+same_standing Arm n = refl
+same_standing Draw n = refl
+
+module _ (drivers clients : ℕ) (n : Numbers) where
+  abbrev Within : Verb → Type 0
+  Within verb = (driver_of (record { verb = verb; numbers = n }) ≤ drivers) × (client_of (record { verb = verb; numbers = n }) ≤ clients)
+
+  lawful_act : (verb : Verb) → InRange (row verb).places n → Within verb → IsLawful drivers clients (act_by verb n)
+  lawful_act Cell range low = (omega (arith, range.0.high), omega (arith, range.1.high))
+  lawful_act Lead range low = (record { pos = omega (arith, range.0.low); low = omega (arith, low.0) }, omega (arith, range.1.high))
+  lawful_act Tick range low = (record { pos = omega (arith, range.0.low); low = omega (arith, low.0) }, omega (arith, range.1.high))
+  lawful_act Resign range low = record { pos = omega (arith, range.low); low = omega (arith, low.0) }
+  lawful_act Take range low = (record { pos = omega (arith, range.0.low); low = omega (arith, low.1) }, record { pos = omega (arith, range.1.low); low = omega (arith, low.0) }, record { some = omega (arith, range.2.low); most = omega (arith, range.2.high) })
+  lawful_act Tell range low = (record { pos = omega (arith, range.0.low); low = omega (arith, low.1) }, record { pos = omega (arith, range.1.low); low = omega (arith, low.1) })
+  lawful_act Hear range low = record { pos = omega (arith, range.low); low = omega (arith, low.1) }
+  lawful_act Read range low = (record { pos = omega (arith, range.0.low); low = omega (arith, low.0) }, omega (arith, range.1.high))
+  lawful_act Campaign range low = record { pos = omega (arith, range.low); low = omega (arith, low.0) }
+  lawful_act Save range low = record { pos = omega (arith, range.low); low = omega (arith, low.0) }
+  lawful_act Raise range low = record { pos = omega (arith, range.low); low = omega (arith, low.0) }
+  lawful_act Publish range low = record { pos = omega (arith, range.low); low = omega (arith, low.0) }
+  lawful_act Probe range low = (record { pos = omega (arith, range.0.low); low = omega (arith, low.0) }, omega (arith, range.1.high))
+  lawful_act Look range low = (record { pos = omega (arith, range.0.low); low = omega (arith, low.1) }, record { pos = omega (arith, range.1.low); low = omega (arith, low.0) })
+  lawful_act Arm range low = (record { pos = omega (arith, range.0.low); low = omega (arith, low.1) }, record { some = omega (arith, range.1.low); most = omega (arith, range.1.high) })
+  lawful_act Draw range low = record { pos = omega (arith, range.low); low = omega (arith, low.1) }
+
+-- all lines
+lawful_lines : (mode : Mode) (drivers clients : ℕ) (first : Bool) (events : List Numbered) → AreRead mode first events → greatest driver_of events ≤ drivers → greatest client_of events ≤ clients → AreLawful mode drivers clients first (map line_of events)
+lawful_lines mode drivers clients first [] read most others = tt
+lawful_lines mode drivers clients first (e ∷ es) read most others = (
+  ap (is_misplaced mode first) (same_standing e.event.verb e.event.numbers) ∙ read.0.placed,
+  lawful_act drivers clients e.event.numbers e.event.verb read.0.range (omega (arith, most), omega (arith, others)),
+  lawful_lines mode drivers clients false es read.1 (omega (arith, most)) (omega (arith, others)),
+)
+
+unbroken_lawful : (mode : Mode) (events : List Numbered) (script : Script) → broken_by events ≡ None → AreRead mode true events → unless_broken events None ≡ Ok script → IsLawfulScript mode script
+unbroken_lawful mode events script unbroken read is =
+    let few = greatest_within events (sym unbroken) in
+    subst (λ (x : Script). IsLawfulScript mode x) (same_ok (record { drivers = greatest driver_of events; clients = greatest client_of events; lines = map line_of events }) script is)
+    (record {
+      drivers = record { pos = omega (arith, at_least_one driver_of events); low = few.0 };
+      clients = record { pos = omega (arith, at_least_one client_of events); low = few.1 };
+      lines = lawful_lines mode (greatest driver_of events) (greatest client_of events) true events read (omega arith) (omega arith);
+    })
+
+by_lawful : (mode : Mode) (r : Result (List Numbered) AtFault) (script : Script) → ((events : List Numbered) → r ≡ Ok events → AreRead mode true events) → script_by r ≡ Ok script → IsLawfulScript mode script
+by_lawful mode (Err fault) script read is = no_fine (Fault fault.line fault.reason) script is
+by_lawful mode (Ok events) script read is = cases (broken_by events) refl is
+  where
+    cases : (broken : Option Broken) → broken_by events ≡ broken → unless_broken events broken ≡ Ok script → IsLawfulScript mode script
+    cases None unbroken same = unbroken_lawful mode events script unbroken (read events refl) same
+    cases (Some b) unbroken same = no_fine (Limit b.what b.count) script same
+
+pub lawful : (mode : Mode) (text : List ℕ) (script : Script) → script_of mode text ≡ Ok script → IsLawfulScript mode script
+lawful mode text script is = by_lawful mode (events_of mode text) script (λ events same. all_read mode 1 true (raw_lines text) events same) is
