@@ -1,10 +1,10 @@
 -- The script of a text is lawful.
-use Rattle.std.proofs.Common.{◌≡◌, ◌≤◌, ℕ, ◌+◌, List, [], ◌∷◌, Bool, true, false, cond, map, get_or, nat_le, Option, Some, None, refl, sym, ap, subst, ◌∙◌, arith}
+use Rattle.std.proofs.Common.{◌≡◌, ◌<◌, ◌≤◌, ℕ, ◌+◌, List, [], ◌∷◌, Bool, true, false, cond, map, max, get_or, nat_le, Option, Some, None, refl, sym, ap, subst, ◌∙◌, arith}
 use Rattle.std.specs.Prelude.{Result, Ok, Err, ◌&&◌}
 use Rattle.std.proofs.lemmas.Bool.Decides.{nat_tests}
 use Rattle.pd_lines.specs.Numeral.{number_of}
 use Rattle.pd_script.specs.Grammar.{AtFault, and_event, and_line, and_number, arity, by_verb, content_of, event_of, events_from, events_of, has_bad_byte, is_passed_over, listed, numbers_of, padded, raw_content, read_places, some_event, unless, with_numbers}
-use Rattle.pd_script.specs.Lawful.{AreLawful, IsLawful, IsLawfulScript, standing_of}
+use Rattle.pd_script.specs.Lawful.{AreLawful, IsCount, IsLawful, IsLawfulScript, IsOneOf, standing_of}
 use Rattle.pd_script.specs.Places.{least, most, read_place, within}
 use Rattle.pd_script.specs.Scripts.{act_by, broken_by, client_of, driver_of, greatest, line_of, script_by, script_of, unless_broken}
 use Rattle.pd_script.specs.Table.{is_misplaced, row, verb_of}
@@ -12,7 +12,8 @@ use Rattle.pd_script.specs.Words.{RawLine, raw_lines, words}
 use Rattle.pd_script.specs.declared.limits.Broken.{Broken}
 use Rattle.pd_script.specs.declared.place.Place.{Place}
 use Rattle.pd_script.specs.declared.refusal.Reason.{Reason}
-use Rattle.pd_script.specs.declared.refusal.Reason.TheVariants.{BadByte, BadNumber, OutOfRange, Misplaced, NoNewline, UnknownWord}
+use Rattle.pd_script.specs.declared.refusal.Reason.TheVariants.{BadByte, MissingWord, ExtraWord, BadNumber, OutOfRange, Misplaced, NoNewline, UnknownWord}
+use Rattle.pd_script.specs.declared.refusal.ScriptRefusal.{ScriptRefusal}
 use Rattle.pd_script.specs.declared.refusal.ScriptRefusal.TheVariants.{Fault, Limit}
 use Rattle.pd_script.specs.declared.script.Mode.{Mode}
 use Rattle.pd_script.specs.declared.script.Script.{Script}
