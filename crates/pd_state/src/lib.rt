@@ -1,0 +1,16 @@
+//! The cluster of a driver: what it knows of stores and regions, and the journal of its requests.
+#![tactic(auto)]
+
+mod cluster;
+mod entry;
+mod part;
+mod reply;
+mod serve;
+mod stores;
+#[cfg(test)]
+mod tests;
+
+pub use cluster::Cluster;
+pub use entry::{Entry, Journal};
+pub use part::Part;
+pub use reply::Reply;

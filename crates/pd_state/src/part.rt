@@ -1,0 +1,14 @@
+use heartbeat::Standing;
+use store_table::Stores;
+
+/// What a cluster knows in a term. Moments are in milliseconds.
+#[derive(Drop)]
+pub struct Part {
+    pub term: u64,
+    /// The moment of the term's request.
+    pub began: u64,
+    /// The greatest moment of the term's requests.
+    pub clock: u64,
+    pub stores: Stores,
+    pub standing: Standing,
+}
