@@ -1,5 +1,5 @@
 // A cluster, which serves one request after another.
-ghost use Rattle.std.specs.Prelude.{◌≡◌, [], false, None, IfOk, OnErr, reverse};
+ghost use Rattle.std.specs.Prelude.{◌≡◌, [], false, None, IfOk, OnErr, option_copied, reverse};
 ghost use Rattle.pd_state.specs.Clusters.{cluster_value, Died, Replays, Served};
 ghost use Rattle.pd_state.specs.Legal.{IsLegal};
 

@@ -1,4 +1,5 @@
 ghost use Rattle.std.specs.Prelude.{◌≡◌, None, IfOk, length};
+ghost use Rattle.pd_types.specs.declared.store.StoreState.TheVariants as states;
 ghost use Rattle.store_table.specs.Entries.{entry_at, state_at};
 ghost use Rattle.pd_state.specs.Legal.{alive_reply, hello_reply};
 ghost use Rattle.pd_state.specs.Steps.{greeted, heard_after, put_after};
@@ -25,6 +26,7 @@ fn take_in(
     moment: u64,
 ) -> Result<Reply, NoMemory>
     requires unknown { state_at rec.id stores.old ≡ None }
+    requires up { rec.state ≡ states.Up }
     ensures reply { IfOk result (λ reply. reply ≡ hello_reply None (length stores.old)) }
     ensures after { IfOk result (λ reply. stores.new ≡ put_after reply (greeted None rec began moment) stores.old) }
 {
@@ -41,14 +43,15 @@ fn take_in(
     }
 }
 
-/// Takes in a store's record with a heartbeat. The term of a new store began with that of its
-/// cluster, at `began`.
+/// Takes in the record of a store that is Up, with a heartbeat; a known one keeps its state. The
+/// term of a new store began with that of its cluster, at `began`.
 pub fn greet(
     stores: &mut Stores,
     rec: StoreRec,
     began: u64,
     moment: u64,
 ) -> Result<Reply, NoMemory>
+    requires { rec.state ≡ states.Up }
     ensures reply { IfOk result (λ reply. reply ≡ hello_reply (state_at rec.id stores.old) (length stores.old)) }
     ensures after { IfOk result (λ reply. stores.new ≡ put_after reply (greeted (entry_at rec.id stores.old) rec began moment) stores.old) }
 {
