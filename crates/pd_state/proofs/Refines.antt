@@ -80,7 +80,7 @@ rows_hello es actor line store moment address labels replies.StorePut silent =
     let rec = kept_state (record_at store (records_of es)) (greeting store address labels) in
     let known = entry_map (store_of es) (λ r. refl) store (records_of es) in
     let is = ap (λ (o : Option StoreEntry). greeted o (greeting store address labels) (began_of es) moment) known
-        ∙ hello_entry es actor line store moment address labels (record_at store (records_of es)) (silent store) (found_id store (records_of es)) in
+    ∙ hello_entry es actor line store moment address labels (record_at store (records_of es)) (silent store) (found_id store (records_of es)) in
     let id = kept_id (record_at store (records_of es)) (greeting store address labels) in
     placed_map (store_of es) (store_of (hello_of actor line store moment address labels replies.StorePut ∷ es)) (λ r. refl)
     (kept_state (record_at store (records_of es)) (greeting store address labels)) _ (ap (λ (e : StoreEntry). e.store.id) is) is
@@ -104,21 +104,30 @@ regions_is bs beat p = refl
 after_hello : (es : List Entry) (actor : Actor) (line store moment : ℕ) (address : List ℕ) (labels : List Label) (p : Reply) → Silent es
     → changed_part (part_of es) (ask.Hello store moment address labels) p ≡ part_of (hello_of actor line store moment address labels p ∷ es)
 after_hello es actor line store moment address labels p silent = λ i. record {
-  term = term_of es; began = began_of es; clock = max (clock_of es) moment; standing = table_of (beats_of es);
+  term = term_of es;
+  began = began_of es;
+  clock = max (clock_of es) moment;
+  standing = table_of (beats_of es);
   stores = rows_hello es actor line store moment address labels p silent i;
 }
 
 after_alive : (es : List Entry) (actor : Actor) (line store moment : ℕ) (p : Reply)
     → changed_part (part_of es) (ask.Alive store moment) p ≡ part_of (entry_of actor line (ask.Alive store moment) p ∷ es)
 after_alive es actor line store moment p = λ i. record {
-  term = term_of es; began = began_of es; clock = max (clock_of es) moment; standing = table_of (beats_of es);
+  term = term_of es;
+  began = began_of es;
+  clock = max (clock_of es) moment;
+  standing = table_of (beats_of es);
   stores = rows_alive es actor line store moment p i;
 }
 
 after_beat : (es : List Entry) (actor : Actor) (line store moment : ℕ) (beat : RegionBeat) (p : Reply)
     → changed_part (part_of es) (ask.Beat store moment beat) p ≡ part_of (entry_of actor line (ask.Beat store moment beat) p ∷ es)
 after_beat es actor line store moment beat p = λ i. record {
-  term = term_of es; began = began_of es; clock = max (clock_of es) moment; stores = map (store_of es) (records_of es);
+  term = term_of es;
+  began = began_of es;
+  clock = max (clock_of es) moment;
+  stores = map (store_of es) (records_of es);
   standing = regions_is (beats_of es) beat p i;
 }
 
@@ -143,7 +152,7 @@ pub refines : (driver : ℕ) (past : List Entry) (e : Entry) → ((es : List Ent
     → stepped (part_after past) e.request ≡ part_after (e ∷ past)
 refines driver past e silent legal =
     subst (λ (p : Reply). stepped (part_after past) e.request ≡ option_map part_of (since_by e.request (entry_of e.actor e.line e.request p) (since past))) (sym legal.reply_is)
-      (refines_by (since past) e.actor e.line e.request silent)
+    (refines_by (since past) e.actor e.line e.request silent)
 
 -- silence, over one entry more
 silent_hello : (es : List Entry) (actor : Actor) (line store moment : ℕ) (address : List ℕ) (labels : List Label) (p : Reply) → Silent es → Silent (hello_of actor line store moment address labels p ∷ es)

@@ -16,9 +16,11 @@ pub record ClusterValue : Type 0 where
   pub dead : Bool
   pub part : Option Part
 
+-- the value with these parts
 abbrev pub cluster_value : ℕ → List Entry → Bool → Option Part → ClusterValue
 cluster_value driver entries dead part = record { driver = driver; entries = entries; dead = dead; part = part }
 
+-- the entry with these parts
 abbrev pub entry_of : Actor → ℕ → Request → Reply → Entry
 entry_of actor line request reply = record { actor = actor; line = line; request = request; reply = reply }
 

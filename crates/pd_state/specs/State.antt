@@ -53,6 +53,7 @@ abbrev pub accepted_by : Reply → RegionBeat → List RegionBeat → List Regio
 accepted_by (replies.Accepted removed) beat earlier = beat ∷ earlier
 accepted_by _ beat earlier = earlier
 
+-- the accepted region heartbeats with one request more
 abbrev pub beats_by : Request → Reply → List RegionBeat → List RegionBeat
 beats_by (ask.Beat store moment beat) reply earlier = accepted_by reply beat earlier
 beats_by _ reply earlier = earlier
@@ -76,6 +77,7 @@ abbrev pub alive_by : Reply → ℕ → ℕ → ℕ → Option ℕ → Option �
 alive_by replies.Alive store at moment before = heard store at moment before
 alive_by _ store at moment before = before
 
+-- no other request is one
 abbrev pub heartbeat_by : Request → Reply → ℕ → Option ℕ → Option ℕ
 heartbeat_by (ask.Hello at moment address labels) reply store before = hello_by reply store at moment before
 heartbeat_by (ask.Alive at moment) reply store before = alive_by reply store at moment before
@@ -108,6 +110,7 @@ abbrev pub greeted_by : Reply → StoreRec → List StoreRec → List StoreRec
 greeted_by replies.StorePut rec recs = with_record (kept_state (record_at rec.id recs) rec) recs
 greeted_by _ rec recs = recs
 
+-- no other request changes a record
 abbrev pub records_by : Request → Reply → List StoreRec → List StoreRec
 records_by (ask.Hello store moment address labels) reply recs = greeted_by reply (greeting store address labels) recs
 records_by _ reply recs = recs

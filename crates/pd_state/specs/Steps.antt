@@ -19,28 +19,34 @@ abbrev pub greeted : Option StoreEntry → StoreRec → ℕ → ℕ → StoreEnt
 greeted None rec began moment = record { store = rec; began = began; beat = Some moment }
 greeted (Some known) rec began moment = answered rec moment (Some known)
 
+-- the entries after a hello with this reply
 abbrev pub put_after : Reply → StoreEntry → List StoreEntry → List StoreEntry
 put_after replies.StorePut entry entries = placed entry entries
 put_after _ entry entries = entries
 
+-- the entries after an alive with this reply
 abbrev pub heard_after : Reply → ℕ → ℕ → List StoreEntry → List StoreEntry
 heard_after replies.Alive store moment entries = changed store (heard moment) entries
 heard_after _ store moment entries = entries
 
+-- the entries after a request with this reply
 abbrev pub stores_after : Request → Reply → ℕ → List StoreEntry → List StoreEntry
 stores_after (ask.Hello store moment address labels) reply began entries =
     put_after reply (greeted (entry_at store entries) (greeting store address labels) began moment) entries
 stores_after (ask.Alive store moment) reply began entries = heard_after reply store moment entries
 stores_after _ reply began entries = entries
 
+-- the regions after a heartbeat with this reply
 abbrev pub beat_after : Reply → RegionBeat → List RegionBeat → List RegionBeat
 beat_after (replies.Accepted removed) beat held = put_beat beat held
 beat_after _ beat held = held
 
+-- the regions after a request with this reply
 abbrev pub standing_after : Request → Reply → List RegionBeat → List RegionBeat
 standing_after (ask.Beat store moment beat) reply held = beat_after reply beat held
 standing_after _ reply held = held
 
+-- the tables of a term after a request with this reply
 abbrev pub changed_part : Part → Request → Reply → Part
 changed_part part request reply = record {
   term = part.term;
@@ -50,6 +56,7 @@ changed_part part request reply = record {
   standing = standing_after request reply part.standing;
 }
 
+-- the tables at the beginning of a term
 abbrev pub new_part : ℕ → ℕ → Part
 new_part term moment = record { term = term; began = moment; clock = moment; stores = []; standing = [] }
 

@@ -22,11 +22,8 @@ pub struct Cluster {
 
 impl Model for Cluster {
     ghost use Rattle.std.specs.Prelude.{◌≡◌, false, reverse};
-
     ghost use Rattle.pd_state.specs.Clusters.{ClusterValue, cluster_value};
-
     ghost use Rattle.pd_state.specs.Legal.{IsLegal};
-
     ghost use Rattle.pd_state.specs.State.{part_after};
 
     ghost Value = { ClusterValue };

@@ -3,6 +3,7 @@
 
 mod cluster;
 mod entry;
+mod laws;
 mod part;
 mod reply;
 mod serve;
@@ -12,5 +13,6 @@ mod tests;
 
 pub use cluster::Cluster;
 pub use entry::{Entry, Journal};
+pub use laws::{each_reply_is_the_first_that_applies, the_regions_are_those_that_stand};
 pub use part::Part;
 pub use reply::Reply;

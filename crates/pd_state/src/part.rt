@@ -1,3 +1,5 @@
+ghost use Rattle.std.specs.Prelude.{◌≡◌, max};
+
 use heartbeat::Standing;
 use store_table::Stores;
 
@@ -11,4 +13,13 @@ pub struct Part {
     pub clock: u64,
     pub stores: Stores,
     pub standing: Standing,
+}
+
+impl Part {
+    /// The clock with a request at this moment: an earlier one changes nothing.
+    pub(crate) fn advance(&mut self, moment: u64)
+        ensures { self.new ≡ record self.old { clock = max self.old.clock moment } }
+    {
+        self.clock = self.clock.max(moment);
+    }
 }

@@ -39,7 +39,7 @@ fn hello(
     ensures reply { IfOk result (λ reply. reply ≡ term_reply part.old (Request.Hello store moment address.now labels.now)) }
     ensures after { IfOk result (λ reply. part.new ≡ changed_part part.old (Request.Hello store moment address.now labels.now) reply) }
 {
-    part.clock = part.clock.max(moment);
+    part.advance(moment);
     let rec = greeting(alloc, store, address, labels)?;
     greet(&mut part.stores, rec, part.began, moment)
 }
@@ -48,7 +48,7 @@ fn alive(part: &mut Part, store: u64, moment: u64) -> Reply
     ensures reply { result ≡ term_reply part.old (Request.Alive store moment) }
     ensures after { part.new ≡ changed_part part.old (Request.Alive store moment) result }
 {
-    part.clock = part.clock.max(moment);
+    part.advance(moment);
     hear(&mut part.stores, store, moment)
 }
 
@@ -62,7 +62,7 @@ fn beat(
     ensures reply { IfOk result (λ reply. reply ≡ term_reply part.old (Request.Beat store moment beat.now)) }
     ensures after { IfOk result (λ reply. part.new ≡ changed_part part.old (Request.Beat store moment beat.now) reply) }
 {
-    part.clock = part.clock.max(moment);
+    part.advance(moment);
     match part.standing.intake(beat.copy(alloc)?)? {
         Intake::Bad(fault) => Ok(Reply::Bad(fault)),
         Intake::Stale { kept } => Ok(Reply::Stale { kept }),
@@ -74,11 +74,7 @@ fn beat(
 }
 
 /// Serves one request over the tables. After want of memory nothing is said of them.
-pub fn step(
-    alloc: Global,
-    part: &mut Option<Part>,
-    request: &Request,
-) -> Result<Reply, NoMemory>
+pub fn step(alloc: Global, part: &mut Option<Part>, request: &Request) -> Result<Reply, NoMemory>
     ensures reply { IfOk result (λ reply. reply ≡ first_reply part.old request.now) }
     ensures after { OnOk result (part.new ≡ stepped part.old request.now) }
 {

@@ -19,12 +19,7 @@ fn state_of(stores: &Stores, store: u64) -> Option<StoreState>
 }
 
 // Takes in a store that isn't known, with a heartbeat.
-fn take_in(
-    stores: &mut Stores,
-    rec: StoreRec,
-    began: u64,
-    moment: u64,
-) -> Result<Reply, NoMemory>
+fn take_in(stores: &mut Stores, rec: StoreRec, began: u64, moment: u64) -> Result<Reply, NoMemory>
     requires unknown { state_at rec.id stores.old ≡ None }
     requires up { rec.state ≡ states.Up }
     ensures reply { IfOk result (λ reply. reply ≡ hello_reply None (length stores.old)) }
@@ -45,12 +40,7 @@ fn take_in(
 
 /// Takes in the record of a store that is Up, with a heartbeat; a known one keeps its state. The
 /// term of a new store began with that of its cluster, at `began`.
-pub fn greet(
-    stores: &mut Stores,
-    rec: StoreRec,
-    began: u64,
-    moment: u64,
-) -> Result<Reply, NoMemory>
+pub fn greet(stores: &mut Stores, rec: StoreRec, began: u64, moment: u64) -> Result<Reply, NoMemory>
     requires { rec.state ≡ states.Up }
     ensures reply { IfOk result (λ reply. reply ≡ hello_reply (state_at rec.id stores.old) (length stores.old)) }
     ensures after { IfOk result (λ reply. stores.new ≡ put_after reply (greeted (entry_at rec.id stores.old) rec began moment) stores.old) }

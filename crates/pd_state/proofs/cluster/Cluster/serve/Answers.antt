@@ -10,16 +10,16 @@ pub invariant_of-self-2 : goal.invariant_of-self-2
 invariant_of-self-2 c =
     let i = c.self.inside in let e = entry_of c.args.actor c.args.line c.args.request c.in_ok-reply.reply in
     let s = served i.driver i.entries c.push.new.self e i.part c.step.new.part
-        c.in_ok-push.ensures.ok
-        c.self.invariant.0 (c.self.invariant.1 c.if-self.false) c.in_ok-reply.ensures.reply c.in_ok-reply.ensures.after in
+    c.in_ok-push.ensures.ok
+    c.self.invariant.0 (c.self.invariant.1 c.if-self.false) c.in_ok-reply.ensures.reply c.in_ok-reply.ensures.after in
     (s.0.0, λ _. s.0.1)
 
 pub returns-clause-ok : goal.returns-clause-ok
 returns-clause-ok c =
     let i = c.self.inside in let e = entry_of c.args.actor c.args.line c.args.request c.in_ok-reply.reply in
     let s = served i.driver i.entries c.push.new.self e i.part c.step.new.part
-        c.in_ok-push.ensures.ok
-        c.self.invariant.0 (c.self.invariant.1 c.if-self.false) c.in_ok-reply.ensures.reply c.in_ok-reply.ensures.after in
+    c.in_ok-push.ensures.ok
+    c.self.invariant.0 (c.self.invariant.1 c.if-self.false) c.in_ok-reply.ensures.reply c.in_ok-reply.ensures.after in
     record {
       entry = e;
       alive = sym (ap (λ v. v.dead) c.self.view_is) ∙ c.if-self.false;
