@@ -98,11 +98,7 @@ pub fn removed_by(
 }
 
 /// The ids of the regions of other ids that the heartbeat overlaps, in key order.
-pub fn removed_ids(
-    alloc: Global,
-    held: &[RegionBeat],
-    beat: &RegionBeat,
-) -> Result<Ids, NoMemory>
+pub fn removed_ids(alloc: Global, held: &[RegionBeat], beat: &RegionBeat) -> Result<Ids, NoMemory>
     ensures value { IfOk result (λ ids. ids ≡ ids_of (removed_by beat.now held.now)) }
 {
     let mut ids = Ids::new(alloc);
