@@ -1,0 +1,4 @@
+pub mod Rows
+pub mod Refines
+pub mod Places
+pub mod Ranged

@@ -1,0 +1,72 @@
+-- Accepted heartbeats passed their own tests, so what stands is their table.
+use Rattle.std.proofs.Common.{refl, ◌≡◌, ℕ, Bool, true, false, cond, List, [], ◌∷◌, Option, Some, None, subst, sym, ◌∙◌}
+use Rattle.std.proofs.lemmas.List.Elements.{All-nil, All-cons}
+use Rattle.std.specs.List.{All}
+use Rattle.std.specs.Option.{option_map}
+use Rattle.pd_types.specs.BeatCheck.{first_fault, fails}
+use Rattle.pd_types.specs.declared.beat.BeatFault.{BeatFault}
+use Rattle.pd_types.specs.declared.beat.BeatFault.TheVariants.{NoPeers, TooManyPeers, DoublePeer, DoubleStore, LeaderAbsent, LeaderNotVoter, BadRange, LongKey}
+use Rattle.pd_types.specs.declared.oracle.Actor.{Actor}
+use Rattle.pd_types.specs.declared.region.RegionBeat.{RegionBeat}
+use Rattle.pd_types.specs.declared.request.Request.{Request}
+use Rattle.pd_types.specs.declared.request.Request.TheVariants as ask
+use Rattle.region_tree.specs.Ranges.{HasRange}
+use Rattle.region_tree.specs.Standing.{IsTable, table_of}
+use Rattle.region_tree.proofs.Stand.{every_table}
+use Rattle.heartbeat.specs.Intakes.{intake_of, intake_by}
+use Rattle.pd_state.specs.declared.entry.Entry.{Entry}
+use Rattle.pd_state.specs.declared.reply.Reply.{Reply}
+use Rattle.pd_state.specs.declared.reply.Reply.TheVariants as replies
+use Rattle.pd_state.specs.Since.{since_by, since}
+use Rattle.pd_state.specs.State.{accepted_by, beats_of, part_of}
+use Rattle.pd_state.specs.Legal.{beat_reply, first_reply, IsLegal}
+use Rattle.pd_state.specs.Clusters.{entry_of}
+
+next_none : (t : Bool) (x : BeatFault) (o : Option BeatFault) → cond t (Some x) o ≡ None → (t ≡ false) × (o ≡ None)
+next_none true x o h = absurd cc
+next_none false x o h = (refl, h)
+
+range_of : (beat : RegionBeat) → first_fault beat ≡ None → HasRange beat
+range_of beat h =
+    let a = next_none (fails beat NoPeers) NoPeers _ h in
+    let b = next_none (fails beat TooManyPeers) TooManyPeers _ a.1 in
+    let c = next_none (fails beat DoublePeer) DoublePeer _ b.1 in
+    let d = next_none (fails beat DoubleStore) DoubleStore _ c.1 in
+    let e = next_none (fails beat LeaderAbsent) LeaderAbsent _ d.1 in
+    let f = next_none (fails beat LeaderNotVoter) LeaderNotVoter _ e.1 in
+    let g = next_none (fails beat BadRange) BadRange _ f.1 in
+    g.0
+
+checked_by : (o : Option BeatFault) (removed : ℕ) (beat : RegionBeat) (held : List RegionBeat) → replies.Accepted removed ≡ beat_reply (intake_by o beat held) → o ≡ None
+checked_by None removed beat held h = refl
+checked_by (Some fault) removed beat held h = absurd cc
+
+ranged_beat : (bs : List RegionBeat) (beat : RegionBeat) (p : Reply) → p ≡ beat_reply (intake_of beat (table_of bs)) → All HasRange bs → All HasRange (accepted_by p beat bs)
+ranged_beat bs beat (replies.Accepted removed) is ranged = All-cons HasRange beat bs (range_of beat (checked_by (first_fault beat) removed beat (table_of bs) is)) ranged
+ranged_beat bs beat p is ranged = ranged
+
+abbrev AreRanged : List Entry → Type 0
+AreRanged es = All HasRange (beats_of es)
+
+some_is : (es fs : List Entry) → Some es ≡ Some fs → AreRanged es → AreRanged fs
+some_is es fs h ranged = let e : es ≡ fs = cc in subst AreRanged e ranged
+
+ranged_more : (s : Option (List Entry)) (actor : Actor) (line : ℕ) (r : Request) (p : Reply) → ((es : List Entry) → s ≡ Some es → AreRanged es)
+    → p ≡ first_reply (option_map part_of s) r → (fs : List Entry) → since_by r (entry_of actor line r p) s ≡ Some fs → AreRanged fs
+ranged_more s actor line (ask.Term term moment) (replies.Term t n m) ranged is fs h = some_is _ fs h (All-nil HasRange)
+ranged_more s actor line (ask.Term term moment) p ranged is fs h = absurd cc
+ranged_more s actor line ask.Retire p ranged is fs h = absurd cc
+ranged_more None actor line (ask.Hello store moment address labels) p ranged is fs h = absurd cc
+ranged_more None actor line (ask.Alive store moment) p ranged is fs h = absurd cc
+ranged_more None actor line (ask.Beat store moment beat) p ranged is fs h = absurd cc
+ranged_more (Some es) actor line (ask.Hello store moment address labels) p ranged is fs h = some_is _ fs h (ranged es refl)
+ranged_more (Some es) actor line (ask.Alive store moment) p ranged is fs h = some_is _ fs h (ranged es refl)
+ranged_more (Some es) actor line (ask.Beat store moment beat) p ranged is fs h =
+    some_is (entry_of actor line (ask.Beat store moment beat) p ∷ es) fs h (ranged_beat (beats_of es) beat p is (ranged es refl))
+
+ranged_after : (driver : ℕ) (past : List Entry) → IsLegal driver past → (es : List Entry) → since past ≡ Some es → AreRanged es
+ranged_after driver [] legal es h = absurd cc
+ranged_after driver (e ∷ past) legal es h = ranged_more (since past) e.actor e.line e.request e.reply (ranged_after driver past legal.1) legal.0.reply_is es h
+
+pub standing_is : (driver : ℕ) (past es : List Entry) → IsLegal driver past → since past ≡ Some es → IsTable (beats_of es) (part_of es).standing
+standing_is driver past es legal h = every_table (beats_of es) (ranged_after driver past legal es h)

@@ -1,0 +1,251 @@
+-- What one entry more makes of the state is what its step made of the tables.
+use Rattle.std.proofs.Common.{refl, ◌≡◌, ℕ, Bool, true, false, cond, nat_eq, nat_le, nat_lt, List, [], ◌∷◌, ◌++◌, map, length, max, reverse, Option, Some, None, ap, sym, ◌∙◌, subst, arith}
+use Rattle.std.proofs.lemmas.Bool.Decides.{nat_tests}
+use Rattle.std.proofs.lemmas.List.{reverse-append}
+use Rattle.std.specs.Option.{option_map}
+use Rattle.pd_types.specs.declared.oracle.Actor.{Actor}
+use Rattle.pd_types.specs.declared.region.RegionBeat.{RegionBeat}
+use Rattle.pd_types.specs.declared.request.Request.{Request}
+use Rattle.pd_types.specs.declared.request.Request.TheVariants as ask
+use Rattle.pd_types.specs.declared.store.Label.{Label}
+use Rattle.pd_types.specs.declared.store.StoreRec.{StoreRec}
+use Rattle.pd_types.specs.declared.store.StoreState.{StoreState}
+use Rattle.pd_types.specs.declared.store.StoreState.TheVariants.{Up, Offline, Tombstone}
+use Rattle.region_tree.specs.Standing.{table_of}
+use Rattle.region_tree.specs.Stale.{put_beat}
+use Rattle.region_tree.proofs.Stand.{stand_more}
+use Rattle.store_table.specs.declared.entry.StoreEntry.{StoreEntry}
+use Rattle.store_table.specs.Standing.{later}
+use Rattle.store_table.specs.Calls.{answered, heard as heard_entry}
+use Rattle.store_table.specs.Entries.{entry_at, state_at, placed, changed}
+use Rattle.heartbeat.specs.declared.intake.Intake.{Intake}
+use Rattle.heartbeat.specs.declared.intake.Intake.TheVariants as intakes
+use Rattle.heartbeat.specs.Intakes.{intake_of}
+use Rattle.pd_state.specs.declared.entry.Entry.{Entry}
+use Rattle.pd_state.specs.declared.part.Part.{Part}
+use Rattle.pd_state.specs.declared.reply.Reply.{Reply}
+use Rattle.pd_state.specs.declared.reply.Reply.TheVariants as replies
+use Rattle.pd_state.specs.Since.{begun, since_by, since}
+use Rattle.pd_state.specs.State.{moment_of, clock_of, term_of, began_of, accepted_by, beats_by, beats_of, heard, heartbeat, greeting, record_at, kept_state, with_record, greeted_by, records_of, store_of, part_of, part_after}
+use Rattle.pd_state.specs.Legal.{hello_reply, alive_reply, beat_reply, begin_reply, term_reply, first_reply, IsLegalAfter, IsLegal}
+use Rattle.pd_state.specs.Clusters.{entry_of, is_refused_beat, SameTables}
+use Rattle.pd_state.specs.Steps.{greeted, put_after, heard_after, beat_after, changed_part, new_part, stepped}
+use Rattle.pd_state.proofs.Rows.{entry_map, placed_map, unknown_before, found_id}
+
+-- a store that isn't known sent no heartbeat
+abbrev pub Silent : List Entry → Type 0
+Silent es = (store : ℕ) → record_at store (records_of es) ≡ None → heartbeat es store ≡ None
+
+heard_own : (store moment : ℕ) (before : Option ℕ) → heard store store moment before ≡ Some (later before moment)
+heard_own store moment before =
+    let here : nat_eq store store ≡ true = grind (arith, nat_tests) in
+    ap (λ (t : Bool). cond t (Some (later before moment)) before) here
+
+abbrev hello_of : Actor → ℕ → ℕ → ℕ → List ℕ → List Label → Reply → Entry
+hello_of actor line store moment address labels p = entry_of actor line (ask.Hello store moment address labels) p
+
+-- the entry of a store that says hello
+hello_entry : (es : List Entry) (actor : Actor) (line store moment : ℕ) (address : List ℕ) (labels : List Label) (o : Option StoreRec)
+    → (o ≡ None → heartbeat es store ≡ None) → ((r : StoreRec) → o ≡ Some r → r.id ≡ store)
+    → greeted (option_map (store_of es) o) (greeting store address labels) (began_of es) moment
+    ≡ store_of (hello_of actor line store moment address labels replies.StorePut ∷ es) (kept_state o (greeting store address labels))
+hello_entry es actor line store moment address labels None silent id =
+    let e : Some moment ≡ heard store store moment (heartbeat es store) = ap (λ (b : Option ℕ). Some (later b moment)) (sym (silent refl)) ∙ sym (heard_own store moment (heartbeat es store)) in
+    ap (λ (b : Option ℕ). let x : StoreEntry = record { store = greeting store address labels; began = began_of es; beat = b } in x) e
+hello_entry es actor line store moment address labels (Some r) silent id =
+    let e : Some (later (heartbeat es r.id) moment) ≡ heard store store moment (heartbeat es store) = ap (λ (n : ℕ). Some (later (heartbeat es n) moment)) (id r refl) ∙ sym (heard_own store moment (heartbeat es store)) in
+    ap (λ (b : Option ℕ). let x : StoreEntry = record { store = record (greeting store address labels) { state = r.state }; began = began_of es; beat = b } in x) e
+
+kept_id : (o : Option StoreRec) (rec : StoreRec) → (kept_state o rec).id ≡ rec.id
+kept_id None rec = refl
+kept_id (Some r) rec = refl
+
+-- the entries of other stores stay
+other_row : (t : Bool) (rec : StoreRec) (began moment : ℕ) (before : Option ℕ) → t ≡ false
+    → (let x : StoreEntry = record { store = rec; began = began; beat = before } in x)
+    ≡ (let x : StoreEntry = record { store = rec; began = began; beat = cond t (Some (later before moment)) before } in x)
+other_row true rec began moment before h = absurd cc
+other_row false rec began moment before h = refl
+
+heard_row : (t : Bool) (rec : StoreRec) (began moment : ℕ) (before : Option ℕ)
+    → cond t (let x : StoreEntry = record { store = rec; began = began; beat = Some (later before moment) } in x) (record { store = rec; began = began; beat = before })
+    ≡ (let x : StoreEntry = record { store = rec; began = began; beat = cond t (Some (later before moment)) before } in x)
+heard_row true rec began moment before = refl
+heard_row false rec began moment before = refl
+
+rows_hello : (es : List Entry) (actor : Actor) (line store moment : ℕ) (address : List ℕ) (labels : List Label) (p : Reply) → Silent es
+    → put_after p (greeted (entry_at store (map (store_of es) (records_of es))) (greeting store address labels) (began_of es) moment) (map (store_of es) (records_of es))
+    ≡ map (store_of (hello_of actor line store moment address labels p ∷ es)) (greeted_by p (greeting store address labels) (records_of es))
+rows_hello es actor line store moment address labels replies.StorePut silent =
+    let rec = kept_state (record_at store (records_of es)) (greeting store address labels) in
+    let known = entry_map (store_of es) (λ r. refl) store (records_of es) in
+    let is = ap (λ (o : Option StoreEntry). greeted o (greeting store address labels) (began_of es) moment) known
+    ∙ hello_entry es actor line store moment address labels (record_at store (records_of es)) (silent store) (found_id store (records_of es)) in
+    let id = kept_id (record_at store (records_of es)) (greeting store address labels) in
+    placed_map (store_of es) (store_of (hello_of actor line store moment address labels replies.StorePut ∷ es)) (λ r. refl)
+    (kept_state (record_at store (records_of es)) (greeting store address labels)) _ (ap (λ (e : StoreEntry). e.store.id) is) is
+    (λ r other. other_row (nat_eq r.id store) r (began_of es) moment (heartbeat es r.id) (subst (λ (n : ℕ). nat_eq r.id n ≡ false) id other)) (records_of es)
+rows_hello es actor line store moment address labels p silent = refl
+
+alive_rows : (es : List Entry) (actor : Actor) (line store moment : ℕ) (recs : List StoreRec)
+    → changed store (heard_entry moment) (map (store_of es) recs) ≡ map (store_of (entry_of actor line (ask.Alive store moment) replies.Alive ∷ es)) recs
+alive_rows es actor line store moment [] = refl
+alive_rows es actor line store moment (r ∷ recs) = λ i. heard_row (nat_eq r.id store) r (began_of es) moment (heartbeat es r.id) i ∷ alive_rows es actor line store moment recs i
+
+rows_alive : (es : List Entry) (actor : Actor) (line store moment : ℕ) (p : Reply)
+    → heard_after p store moment (map (store_of es) (records_of es)) ≡ map (store_of (entry_of actor line (ask.Alive store moment) p ∷ es)) (records_of es)
+rows_alive es actor line store moment replies.Alive = alive_rows es actor line store moment (records_of es)
+rows_alive es actor line store moment p = refl
+
+regions_is : (bs : List RegionBeat) (beat : RegionBeat) (p : Reply) → beat_after p beat (table_of bs) ≡ table_of (accepted_by p beat bs)
+regions_is bs beat (replies.Accepted removed) = sym (stand_more beat bs)
+regions_is bs beat p = refl
+
+after_hello : (es : List Entry) (actor : Actor) (line store moment : ℕ) (address : List ℕ) (labels : List Label) (p : Reply) → Silent es
+    → changed_part (part_of es) (ask.Hello store moment address labels) p ≡ part_of (hello_of actor line store moment address labels p ∷ es)
+after_hello es actor line store moment address labels p silent = λ i. record {
+  term = term_of es;
+  began = began_of es;
+  clock = max (clock_of es) moment;
+  standing = table_of (beats_of es);
+  stores = rows_hello es actor line store moment address labels p silent i;
+}
+
+after_alive : (es : List Entry) (actor : Actor) (line store moment : ℕ) (p : Reply)
+    → changed_part (part_of es) (ask.Alive store moment) p ≡ part_of (entry_of actor line (ask.Alive store moment) p ∷ es)
+after_alive es actor line store moment p = λ i. record {
+  term = term_of es;
+  began = began_of es;
+  clock = max (clock_of es) moment;
+  standing = table_of (beats_of es);
+  stores = rows_alive es actor line store moment p i;
+}
+
+after_beat : (es : List Entry) (actor : Actor) (line store moment : ℕ) (beat : RegionBeat) (p : Reply)
+    → changed_part (part_of es) (ask.Beat store moment beat) p ≡ part_of (entry_of actor line (ask.Beat store moment beat) p ∷ es)
+after_beat es actor line store moment beat p = λ i. record {
+  term = term_of es;
+  began = began_of es;
+  clock = max (clock_of es) moment;
+  stores = map (store_of es) (records_of es);
+  standing = regions_is (beats_of es) beat p i;
+}
+
+-- a Term's tables are those of its entry alone
+after_term : (actor : Actor) (line term moment : ℕ) → new_part term moment ≡ part_of (entry_of actor line (ask.Term term moment) (begin_reply term) ∷ [])
+after_term actor line term moment =
+    let e : moment ≡ max 0 moment = omega arith in
+    ap (λ (c : ℕ). let p : Part = record { term = term; began = moment; clock = c; stores = []; standing = [] } in p) e
+
+refines_by : (s : Option (List Entry)) (actor : Actor) (line : ℕ) (r : Request) → ((es : List Entry) → s ≡ Some es → Silent es)
+    → stepped (option_map part_of s) r ≡ option_map part_of (since_by r (entry_of actor line r (first_reply (option_map part_of s) r)) s)
+refines_by None actor line (ask.Term term moment) silent = ap Some (after_term actor line term moment)
+refines_by (Some es) actor line (ask.Term term moment) silent = ap Some (after_term actor line term moment)
+refines_by None actor line r silent = refl
+refines_by (Some es) actor line ask.Retire silent = refl
+refines_by (Some es) actor line (ask.Hello store moment address labels) silent =
+    ap Some (after_hello es actor line store moment address labels (term_reply (part_of es) (ask.Hello store moment address labels)) (silent es refl))
+refines_by (Some es) actor line (ask.Alive store moment) silent = ap Some (after_alive es actor line store moment (term_reply (part_of es) (ask.Alive store moment)))
+refines_by (Some es) actor line (ask.Beat store moment beat) silent = ap Some (after_beat es actor line store moment beat (term_reply (part_of es) (ask.Beat store moment beat)))
+
+pub refines : (driver : ℕ) (past : List Entry) (e : Entry) → ((es : List Entry) → since past ≡ Some es → Silent es) → IsLegalAfter driver past e
+    → stepped (part_after past) e.request ≡ part_after (e ∷ past)
+refines driver past e silent legal =
+    subst (λ (p : Reply). stepped (part_after past) e.request ≡ option_map part_of (since_by e.request (entry_of e.actor e.line e.request p) (since past))) (sym legal.reply_is)
+    (refines_by (since past) e.actor e.line e.request silent)
+
+-- silence, over one entry more
+silent_hello : (es : List Entry) (actor : Actor) (line store moment : ℕ) (address : List ℕ) (labels : List Label) (p : Reply) → Silent es → Silent (hello_of actor line store moment address labels p ∷ es)
+silent_hello es actor line store moment address labels replies.StorePut silent = λ other k.
+    let rec = kept_state (record_at store (records_of es)) (greeting store address labels) in
+    let before = unknown_before (kept_state (record_at store (records_of es)) (greeting store address labels)) other (records_of es) k in
+    let apart = subst (λ (n : ℕ). nat_eq other n ≡ false) (kept_id (record_at store (records_of es)) (greeting store address labels)) before.1 in
+    ap (λ (t : Bool). cond t (Some (later (heartbeat es other) moment)) (heartbeat es other)) apart ∙ silent other before.0
+silent_hello es actor line store moment address labels p silent = silent
+
+-- a heartbeat of a store that isn't known isn't taken
+unheard : (o : Option StoreEntry) → o ≡ None → alive_reply (option_map (λ (e : StoreEntry). e.store.state) o) ≡ replies.UnknownStore
+unheard None h = refl
+unheard (Some e) h = absurd cc
+
+silent_alive : (es : List Entry) (actor : Actor) (line store moment : ℕ) (p : Reply) → p ≡ alive_reply (state_at store (map (store_of es) (records_of es))) → Silent es
+    → Silent (entry_of actor line (ask.Alive store moment) p ∷ es)
+silent_alive es actor line store moment replies.Alive is silent = λ other k. by_test other k (nat_eq other store) refl
+  where
+    by_test : (other : ℕ) → record_at other (records_of es) ≡ None → (t : Bool) → nat_eq other store ≡ t → cond t (Some (later (heartbeat es other) moment)) (heartbeat es other) ≡ None
+    by_test other k true t =
+        let same : other ≡ store = grind (arith, nat_tests) in
+        let unknown = subst (λ (n : ℕ). record_at n (records_of es) ≡ None) same k in
+        let none = unheard (entry_at store (map (store_of es) (records_of es))) (entry_map (store_of es) (λ r. refl) store (records_of es) ∙ ap (option_map (store_of es)) unknown) in
+        absurd (let g : replies.Alive ≡ replies.UnknownStore = is ∙ none in cc)
+    by_test other k false t = silent other k
+silent_alive es actor line store moment p is silent = silent
+
+some_is : (es fs : List Entry) → Some es ≡ Some fs → Silent es → Silent fs
+some_is es fs h silent = let e : es ≡ fs = cc in subst Silent e silent
+
+silent_more : (s : Option (List Entry)) (actor : Actor) (line : ℕ) (r : Request) (p : Reply) → ((es : List Entry) → s ≡ Some es → Silent es)
+    → p ≡ first_reply (option_map part_of s) r → (fs : List Entry) → since_by r (entry_of actor line r p) s ≡ Some fs → Silent fs
+silent_more s actor line (ask.Term term moment) (replies.Term t n m) silent is fs h = some_is _ fs h (λ store k. refl)
+silent_more s actor line (ask.Term term moment) p silent is fs h = absurd cc
+silent_more s actor line ask.Retire p silent is fs h = absurd cc
+silent_more None actor line (ask.Hello store moment address labels) p silent is fs h = absurd cc
+silent_more None actor line (ask.Alive store moment) p silent is fs h = absurd cc
+silent_more None actor line (ask.Beat store moment beat) p silent is fs h = absurd cc
+silent_more (Some es) actor line (ask.Hello store moment address labels) p silent is fs h = some_is _ fs h (silent_hello es actor line store moment address labels p (silent es refl))
+silent_more (Some es) actor line (ask.Alive store moment) p silent is fs h = some_is _ fs h (silent_alive es actor line store moment p is (silent es refl))
+silent_more (Some es) actor line (ask.Beat store moment beat) p silent is fs h = some_is _ fs h (silent es refl)
+
+pub silent_after : (driver : ℕ) (past : List Entry) → IsLegal driver past → (es : List Entry) → since past ≡ Some es → Silent es
+silent_after driver [] legal es h = absurd cc
+silent_after driver (e ∷ past) legal es h = silent_more (since past) e.actor e.line e.request e.reply (silent_after driver past legal.1) legal.0.reply_is es h
+
+-- a refused region heartbeat leaves stores and regions
+hello_no_beat : (o : Option StoreState) (n : ℕ) → is_refused_beat (hello_reply o n) ≡ false
+hello_no_beat (Some Up) n = refl
+hello_no_beat (Some Offline) n = refl
+hello_no_beat (Some Tombstone) n = refl
+hello_no_beat None n = by (nat_le 256 n)
+  where
+    by : (t : Bool) → is_refused_beat (cond t replies.Limit replies.StorePut) ≡ false
+    by true = refl
+    by false = refl
+
+alive_no_beat : (o : Option StoreState) → is_refused_beat (alive_reply o) ≡ false
+alive_no_beat (Some Up) = refl
+alive_no_beat (Some Offline) = refl
+alive_no_beat (Some Tombstone) = refl
+alive_no_beat None = refl
+
+no_beat : {P : Type 0} (b : Bool) → b ≡ false → b ≡ true → P
+no_beat b refused accepted = absurd cc
+
+beat_leaves : (part : Part) (store moment : ℕ) (beat : RegionBeat) (intake : Intake) → is_refused_beat (beat_reply intake) ≡ true → SameTables (Some part) (Some (changed_part part (ask.Beat store moment beat) (beat_reply intake)))
+beat_leaves part store moment beat (intakes.Accepted removed) h = absurd cc
+beat_leaves part store moment beat (intakes.Bad fault) h = record { stores_are = refl; regions_are = refl }
+beat_leaves part store moment beat (intakes.Stale kept) h = record { stores_are = refl; regions_are = refl }
+beat_leaves part store moment beat intakes.Full h = record { stores_are = refl; regions_are = refl }
+
+pub leaves_by : (old : Option Part) (r : Request) → is_refused_beat (first_reply old r) ≡ true → SameTables old (stepped old r)
+leaves_by None (ask.Term term moment) h = absurd cc
+leaves_by None r h = absurd cc
+leaves_by (Some part) (ask.Term term moment) h = absurd cc
+leaves_by (Some part) ask.Retire h = absurd cc
+leaves_by (Some part) (ask.Hello store moment address labels) h = no_beat _ (hello_no_beat (state_at store part.stores) (length part.stores)) h
+leaves_by (Some part) (ask.Alive store moment) h = no_beat _ (alive_no_beat (state_at store part.stores)) h
+leaves_by (Some part) (ask.Beat store moment beat) h = beat_leaves part store moment beat (intake_of beat part.standing) h
+
+-- the journal that serve leaves
+pub served : (driver : ℕ) (entries after : List Entry) (e : Entry) (old new : Option Part) → after ≡ entries ++ e ∷ [] → IsLegal driver (reverse entries) → old ≡ part_after (reverse entries)
+    → e.reply ≡ first_reply old e.request → new ≡ stepped old e.request
+    → (IsLegal driver (reverse after) × (new ≡ part_after (reverse after))) × IsLegalAfter driver (reverse entries) e
+served driver entries after e old new is legal holds reply_is steps =
+    let here : IsLegalAfter driver (reverse entries) e = record { reply_is = reply_is ∙ ap (λ (o : Option Part). first_reply o e.request) holds } in
+    let back : reverse after ≡ e ∷ reverse entries = ap reverse is ∙ reverse-append entries (e ∷ []) in
+    let now : new ≡ part_after (e ∷ reverse entries) = steps ∙ ap (λ (o : Option Part). stepped o e.request) holds ∙ refines driver (reverse entries) e (silent_after driver (reverse entries) legal) here in
+    let both : IsLegal driver (e ∷ reverse entries) × (new ≡ part_after (e ∷ reverse entries)) = ((here, legal), now) in
+    (subst (λ (l : List Entry). IsLegal driver l × (new ≡ part_after l)) (sym back) both, here)
+
+pub leaves : (old new : Option Part) (r : Request) (p : Reply) → p ≡ first_reply old r → new ≡ stepped old r → is_refused_beat p ≡ true → SameTables old new
+leaves old new r p reply_is steps h =
+    subst (SameTables old) (sym steps) (leaves_by old r (subst (λ (q : Reply). is_refused_beat q ≡ true) reply_is h))

@@ -1,0 +1,37 @@
+use Rattle.std.proofs.Common.{◌≡◌, ◌++◌, ◌∷◌, [], List, Option, reverse, false, true, sym, ap, subst, refl, ◌∙◌}
+use Rattle.pd_state.specs.Clusters.{entry_of, is_refused_beat, SameTables}
+use Rattle.pd_state.specs.Legal.{IsLegalAfter}
+use Rattle.pd_state.specs.declared.entry.Entry.{Entry}
+use Rattle.pd_state.specs.declared.part.Part.{Part}
+use Rattle.pd_state.proofs.Refines.{served, leaves}
+use Rattle.pd_state.proofs.cluster.Cluster.serve.Goals as goal
+
+pub invariant_of-self-2 : goal.invariant_of-self-2
+invariant_of-self-2 c =
+    let i = c.self.inside in let e = entry_of c.args.actor c.args.line c.args.request c.in_ok-reply.reply in
+    let s = served i.driver i.entries c.push.new.self e i.part c.step.new.part
+    c.in_ok-push.ensures.ok
+    c.self.invariant.0 (c.self.invariant.1 c.if-self.false) c.in_ok-reply.ensures.reply c.in_ok-reply.ensures.after in
+    (s.0.0, λ _. s.0.1)
+
+pub returns-clause-ok : goal.returns-clause-ok
+returns-clause-ok c =
+    let i = c.self.inside in let e = entry_of c.args.actor c.args.line c.args.request c.in_ok-reply.reply in
+    let s = served i.driver i.entries c.push.new.self e i.part c.step.new.part
+    c.in_ok-push.ensures.ok
+    c.self.invariant.0 (c.self.invariant.1 c.if-self.false) c.in_ok-reply.ensures.reply c.in_ok-reply.ensures.after in
+    record {
+      entry = e;
+      alive = sym (ap (λ v. v.dead) c.self.view_is) ∙ c.if-self.false;
+      driver_is = ap (λ v. v.driver) c.self.view_is;
+      appended = c.in_ok-push.ensures.ok ∙ ap (λ v. v.entries ++ e ∷ []) c.self.view_is;
+      lives = refl;
+      replays = s.0.1;
+      actor_is = refl;
+      line_is = refl;
+      request_is = refl;
+      reply_is = refl;
+      legal = subst (λ v. IsLegalAfter v.driver (reverse v.entries) e) c.self.view_is s.1;
+      leaves = λ h. subst (λ v. SameTables v.part c.step.new.part) c.self.view_is
+          (leaves i.part c.step.new.part c.args.request c.in_ok-reply.reply c.in_ok-reply.ensures.reply c.in_ok-reply.ensures.after h);
+    }

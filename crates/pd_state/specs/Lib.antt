@@ -1,0 +1,6 @@
+pub mod ReplyText
+pub mod Since
+pub mod State
+pub mod Legal
+pub mod Clusters
+pub mod Steps

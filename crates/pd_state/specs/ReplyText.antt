@@ -1,0 +1,33 @@
+-- The text of each answer of a cluster (own choice; the texts of a region heartbeat end in what was dispatched, which is `none` without operators).
+use Rattle.std.specs.Prelude.{ℕ, List, ◌++◌, codes}
+use Rattle.std.specs.Fmt.{decimal}
+use Rattle.pd_types.specs.declared.beat.BeatFault.{BeatFault}
+use Rattle.pd_types.specs.declared.beat.BeatFault.TheVariants as faults
+use Rattle.pd_state.specs.declared.reply.Reply.{Reply}
+use Rattle.pd_state.specs.declared.reply.Reply.TheVariants as replies
+
+-- the place of the test in the order of tests, from 1
+abbrev pub fault_number : BeatFault → ℕ
+fault_number faults.NoPeers = 1
+fault_number faults.TooManyPeers = 2
+fault_number faults.DoublePeer = 3
+fault_number faults.DoubleStore = 4
+fault_number faults.LeaderAbsent = 5
+fault_number faults.LeaderNotVoter = 6
+fault_number faults.BadRange = 7
+fault_number faults.LongKey = 8
+
+-- the words of the answer, and its numbers in decimal
+abbrev pub reply_text : Reply → List ℕ
+reply_text replies.NotLeading = codes "not-leading"
+reply_text (replies.Term term stores rules) = codes "term " ++ decimal term ++ codes " stores " ++ decimal stores ++ codes " rules " ++ decimal rules
+reply_text replies.Retired = codes "retired"
+reply_text replies.Tombstone = codes "tombstone"
+reply_text replies.Limit = codes "limit"
+reply_text replies.StorePut = codes "store put"
+reply_text replies.UnknownStore = codes "unknown-store"
+reply_text replies.Alive = codes "alive"
+reply_text (replies.Bad fault) = codes "bad " ++ decimal (fault_number fault)
+reply_text (replies.Stale kept) = codes "stale conf " ++ decimal kept.conf_ver ++ codes " version " ++ decimal kept.version
+reply_text replies.Full = codes "full"
+reply_text (replies.Accepted removed) = codes "accepted removed " ++ decimal removed ++ codes " none"

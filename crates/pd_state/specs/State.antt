@@ -1,0 +1,139 @@
+-- What the entries of a term part say of the present: its clock, stores and regions. Each list of entries has the latest first.
+use Rattle.std.specs.Prelude.{ℕ, Bool, nat_eq, nat_lt, max, if◌then◌else◌, List, [], ◌∷◌, ◌++◌, filter, find, map, Option, Some, None, option_map}
+use Rattle.pd_types.specs.declared.region.RegionBeat.{RegionBeat}
+use Rattle.pd_types.specs.declared.request.Request.{Request}
+use Rattle.pd_types.specs.declared.request.Request.TheVariants as ask
+use Rattle.pd_types.specs.declared.store.Label.{Label}
+use Rattle.pd_types.specs.declared.store.StoreRec.{StoreRec}
+use Rattle.pd_types.specs.declared.store.StoreState.TheVariants.{Up}
+use Rattle.region_tree.specs.Standing.{table_of}
+use Rattle.store_table.specs.declared.entry.StoreEntry.{StoreEntry}
+use Rattle.store_table.specs.Standing.{later}
+use Rattle.pd_state.specs.declared.entry.Entry.{Entry}
+use Rattle.pd_state.specs.declared.part.Part.{Part}
+use Rattle.pd_state.specs.declared.reply.Reply.{Reply}
+use Rattle.pd_state.specs.declared.reply.Reply.TheVariants as replies
+use Rattle.pd_state.specs.Since.{since}
+
+-- a request's own moment; 0 where it has none
+abbrev pub moment_of : Request → ℕ
+moment_of (ask.Term term moment) = moment
+moment_of ask.Retire = 0
+moment_of (ask.Hello store moment address labels) = moment
+moment_of (ask.Alive store moment) = moment
+moment_of (ask.Beat store moment beat) = moment
+
+-- the clock: the greatest moment of all requests, refused, bad and stale ones too
+abbrev pub clock_of : List Entry → ℕ
+clock_of [] = 0
+clock_of (entry ∷ entries) = max (clock_of entries) (moment_of entry.request)
+
+-- the number of a Term, else the one before
+abbrev pub term_by : Request → ℕ → ℕ
+term_by (ask.Term term moment) before = term
+term_by _ before = before
+
+-- the number of the last Term
+abbrev pub term_of : List Entry → ℕ
+term_of [] = 0
+term_of (entry ∷ entries) = term_by entry.request (term_of entries)
+
+-- the moment of a Term, else the one before
+abbrev pub began_by : Request → ℕ → ℕ
+began_by (ask.Term term moment) before = moment
+began_by _ before = before
+
+-- the moment of the last Term
+abbrev pub began_of : List Entry → ℕ
+began_of [] = 0
+began_of (entry ∷ entries) = began_by entry.request (began_of entries)
+
+-- a region heartbeat, where it was accepted, before those that came earlier
+abbrev pub accepted_by : Reply → RegionBeat → List RegionBeat → List RegionBeat
+accepted_by (replies.Accepted removed) beat earlier = beat ∷ earlier
+accepted_by _ beat earlier = earlier
+
+-- the accepted region heartbeats with one request more
+abbrev pub beats_by : Request → Reply → List RegionBeat → List RegionBeat
+beats_by (ask.Beat store moment beat) reply earlier = accepted_by reply beat earlier
+beats_by _ reply earlier = earlier
+
+-- the accepted region heartbeats, the latest first
+abbrev pub beats_of : List Entry → List RegionBeat
+beats_of [] = []
+beats_of (entry ∷ entries) = beats_by entry.request entry.reply (beats_of entries)
+
+-- the greater of the moment and the last heartbeat, where it is the store's own
+abbrev pub heard : ℕ → ℕ → ℕ → Option ℕ → Option ℕ
+heard store at moment before = if nat_eq store at then Some (later before moment) else before
+
+-- an accepted hello is a heartbeat of its store
+abbrev pub hello_by : Reply → ℕ → ℕ → ℕ → Option ℕ → Option ℕ
+hello_by replies.StorePut store at moment before = heard store at moment before
+hello_by _ store at moment before = before
+
+-- so is an accepted alive
+abbrev pub alive_by : Reply → ℕ → ℕ → ℕ → Option ℕ → Option ℕ
+alive_by replies.Alive store at moment before = heard store at moment before
+alive_by _ store at moment before = before
+
+-- no other request is one
+abbrev pub heartbeat_by : Request → Reply → ℕ → Option ℕ → Option ℕ
+heartbeat_by (ask.Hello at moment address labels) reply store before = hello_by reply store at moment before
+heartbeat_by (ask.Alive at moment) reply store before = alive_by reply store at moment before
+heartbeat_by _ reply store before = before
+
+-- a store's last heartbeat: the greatest moment of its accepted hellos and alives
+abbrev pub heartbeat : List Entry → ℕ → Option ℕ
+heartbeat [] store = None
+heartbeat (entry ∷ entries) store = heartbeat_by entry.request entry.reply store (heartbeat entries store)
+
+-- the record of a store that says hello
+abbrev pub greeting : ℕ → List ℕ → List Label → StoreRec
+greeting store address labels = record { id = store; address = address; labels = labels; state = Up }
+
+-- the record of this store, where it is known
+abbrev pub record_at : ℕ → List StoreRec → Option StoreRec
+record_at store recs = find (λ rec. nat_eq rec.id store) recs
+
+-- a known store keeps its state
+abbrev pub kept_state : Option StoreRec → StoreRec → StoreRec
+kept_state None rec = rec
+kept_state (Some known) rec = record rec { state = known.state }
+
+-- the record behind those of lesser ids and before those of greater ids, in place of one with its id
+abbrev pub with_record : StoreRec → List StoreRec → List StoreRec
+with_record rec recs = filter (λ one. nat_lt one.id rec.id) recs ++ (rec ∷ filter (λ one. nat_lt rec.id one.id) recs)
+
+-- an accepted hello changes the record of its store
+abbrev pub greeted_by : Reply → StoreRec → List StoreRec → List StoreRec
+greeted_by replies.StorePut rec recs = with_record (kept_state (record_at rec.id recs) rec) recs
+greeted_by _ rec recs = recs
+
+-- no other request changes a record
+abbrev pub records_by : Request → Reply → List StoreRec → List StoreRec
+records_by (ask.Hello store moment address labels) reply recs = greeted_by reply (greeting store address labels) recs
+records_by _ reply recs = recs
+
+-- the records that the Term handed out, which are none, with the later accepted changes
+abbrev pub records_of : List Entry → List StoreRec
+records_of [] = []
+records_of (entry ∷ entries) = records_by entry.request entry.reply (records_of entries)
+
+-- a record with the beginning of the term and the store's last heartbeat
+abbrev pub store_of : List Entry → StoreRec → StoreEntry
+store_of entries rec = record { store = rec; began = began_of entries; beat = heartbeat entries rec.id }
+
+-- what stands after these entries of a term part
+abbrev pub part_of : List Entry → Part
+part_of entries = record {
+  term = term_of entries;
+  began = began_of entries;
+  clock = clock_of entries;
+  stores = map (store_of entries) (records_of entries);
+  standing = table_of (beats_of entries);
+}
+
+-- the tables after a journal: none without a term part
+abbrev pub part_after : List Entry → Option Part
+part_after past = option_map part_of (since past)

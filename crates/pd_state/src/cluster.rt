@@ -1,0 +1,89 @@
+// A cluster, which serves one request after another.
+ghost use Rattle.std.specs.Prelude.{◌≡◌, [], false, None, IfOk, OnErr, option_copied, reverse};
+ghost use Rattle.pd_state.specs.Clusters.{cluster_value, Died, Replays, Served};
+ghost use Rattle.pd_state.specs.Legal.{IsLegal};
+
+use crate::serve::step;
+use crate::{Entry, Journal, Part, Reply};
+use pd_types::{Actor, NoMemory, Request};
+use std::alloc::Global;
+use std::marker::Model;
+
+/// The cluster of one driver. Contracts see its driver, its journal, its tables, and whether want of
+/// memory ended it.
+#[derive(Drop)]
+pub struct Cluster {
+    driver: u8,
+    entries: Journal,
+    part: Option<Part>,
+    dead: bool,
+    alloc: Global,
+}
+
+impl Model for Cluster {
+    ghost use Rattle.std.specs.Prelude.{◌≡◌, false, reverse};
+    ghost use Rattle.pd_state.specs.Clusters.{ClusterValue, cluster_value};
+    ghost use Rattle.pd_state.specs.Legal.{IsLegal};
+    ghost use Rattle.pd_state.specs.State.{part_after};
+
+    ghost Value = { ClusterValue };
+
+    ghost view = { λ c. cluster_value c.driver c.entries c.dead c.part };
+
+    ghost invariant = { λ c. IsLegal c.driver (reverse c.entries) × (c.dead ≡ false → c.part ≡ part_after (reverse c.entries)) };
+}
+
+impl Cluster {
+    /// The cluster of a driver, without a term and without entries.
+    pub fn new(alloc: Global, driver: u8) -> Cluster
+        ensures value { result ≡ cluster_value driver [] false None }
+    {
+        Cluster {
+            driver,
+            entries: Journal::new(alloc),
+            part: None,
+            dead: false,
+            alloc,
+        }
+    }
+
+    /// Serves one request and appends its entry; the reply is the first that applies over the
+    /// entries before it. After want of memory no entry was appended, and every later call answers
+    /// it too.
+    pub fn serve(&mut self, actor: Actor, line: u32, request: Request) -> Result<Reply, NoMemory>
+        ensures ok { IfOk result (λ reply. Served self.old self.new actor line request reply) }
+        ensures err { OnErr result (Died self.old self.new) }
+    {
+        if self.dead {
+            return Err(NoMemory);
+        }
+        // The tables may be left half changed from here on.
+        self.dead = true;
+        let reply = step(self.alloc, &mut self.part, &request)?;
+        self.entries.push(Entry {
+            actor,
+            line,
+            request,
+            reply,
+        })?;
+        self.dead = false;
+        Ok(reply)
+    }
+
+    /// The journal: all requests with their replies, in order. It replays to the tables, unless want
+    /// of memory ended the cluster.
+    pub fn journal(&self) -> &Journal
+        ensures value { result.now ≡ self.now.entries }
+        ensures legal { IsLegal self.now.driver (reverse self.now.entries) }
+        ensures replays { Replays self.now }
+    {
+        &self.entries
+    }
+
+    /// The tables of the term; none without a term.
+    pub fn part(&self) -> Option<&Part>
+        ensures value { self.now.dead ≡ false → option_copied result ≡ self.now.part }
+    {
+        self.part.as_ref()
+    }
+}

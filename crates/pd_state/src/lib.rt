@@ -1,0 +1,18 @@
+//! The cluster of a driver: what it knows of stores and regions, and the journal of its requests.
+#![tactic(auto)]
+
+mod cluster;
+mod entry;
+mod laws;
+mod part;
+mod reply;
+mod serve;
+mod stores;
+#[cfg(test)]
+mod tests;
+
+pub use cluster::Cluster;
+pub use entry::{Entry, Journal};
+pub use laws::{each_reply_is_the_first_that_applies, the_regions_are_those_that_stand};
+pub use part::Part;
+pub use reply::Reply;

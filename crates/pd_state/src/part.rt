@@ -1,0 +1,25 @@
+ghost use Rattle.std.specs.Prelude.{◌≡◌, max};
+
+use heartbeat::Standing;
+use store_table::Stores;
+
+/// What a cluster knows in a term. Moments are in milliseconds.
+#[derive(Drop)]
+pub struct Part {
+    pub term: u64,
+    /// The moment of the term's request.
+    pub began: u64,
+    /// The greatest moment of the term's requests.
+    pub clock: u64,
+    pub stores: Stores,
+    pub standing: Standing,
+}
+
+impl Part {
+    /// The clock with a request at this moment: an earlier one changes nothing.
+    pub(crate) fn advance(&mut self, moment: u64)
+        ensures { self.new ≡ record self.old { clock = max self.old.clock moment } }
+    {
+        self.clock = self.clock.max(moment);
+    }
+}

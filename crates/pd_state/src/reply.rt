@@ -1,0 +1,80 @@
+ghost use Rattle.std.specs.Prelude.{◌≡◌, Some};
+ghost use Rattle.pd_state.specs.ReplyText.{fault_number, reply_text};
+
+use pd_types::{BeatFault, Epoch};
+use std::fmt;
+
+/// What a cluster answers to a request. It prints as the answer's text.
+#[derive(Clone, Copy, Debug, PartialEq, Eq)]
+pub enum Reply {
+    /// The cluster has no term.
+    NotLeading,
+    /// The term began, with these numbers of stores and rules.
+    Term { term: u64, stores: u64, rules: u64 },
+    /// The term was given up.
+    Retired,
+    /// The store is a tombstone.
+    Tombstone,
+    /// There are 256 stores, and this one isn't among them.
+    Limit,
+    StorePut,
+    /// The store isn't known.
+    UnknownStore,
+    Alive,
+    /// The region heartbeat fails this test by itself.
+    Bad(BeatFault),
+    /// A held region shows that the heartbeat is stale, by this epoch.
+    Stale { kept: Epoch },
+    /// More than 65,536 regions would stand.
+    Full,
+    /// The heartbeat stands; so many overlapped regions of other ids went.
+    Accepted { removed: u64 },
+}
+
+// The number of a test of a region heartbeat, from 1 to 8.
+fn fault_number(fault: BeatFault) -> u8
+    ensures value { result ≡ fault_number fault }
+{
+    match fault {
+        BeatFault::NoPeers => 1,
+        BeatFault::TooManyPeers => 2,
+        BeatFault::DoublePeer => 3,
+        BeatFault::DoubleStore => 4,
+        BeatFault::LeaderAbsent => 5,
+        BeatFault::LeaderNotVoter => 6,
+        BeatFault::BadRange => 7,
+        BeatFault::LongKey => 8,
+    }
+}
+
+impl fmt::Display for Reply {
+    ghost output = { λ reply. Some (reply_text reply) };
+
+    fn fmt<W: fmt::Write>(&self, f: &mut fmt::Formatter<W>) -> fmt::Result {
+        match self {
+            Reply::NotLeading => write!(f, "not-leading"),
+            Reply::Term {
+                term,
+                stores,
+                rules,
+            } => write!(f, "term {term} stores {stores} rules {rules}"),
+            Reply::Retired => write!(f, "retired"),
+            Reply::Tombstone => write!(f, "tombstone"),
+            Reply::Limit => write!(f, "limit"),
+            Reply::StorePut => write!(f, "store put"),
+            Reply::UnknownStore => write!(f, "unknown-store"),
+            Reply::Alive => write!(f, "alive"),
+            Reply::Bad(fault) => {
+                let number = fault_number(*fault);
+                write!(f, "bad {number}")
+            }
+            Reply::Stale { kept } => {
+                let conf_ver = kept.conf_ver;
+                let version = kept.version;
+                write!(f, "stale conf {conf_ver} version {version}")
+            }
+            Reply::Full => write!(f, "full"),
+            Reply::Accepted { removed } => write!(f, "accepted removed {removed} none"),
+        }
+    }
+}

@@ -1,0 +1,247 @@
+use crate::{Cluster, Reply};
+use pd_types::{
+    Actor, BeatFault, Bytes, Downs, Epoch, Ids, Labels, NoMemory, Peer, Region, RegionBeat,
+    Request, Role, Seq, Text,
+};
+use std::alloc::{AllocError, Global};
+use std::process::Abort;
+use std::test::Fail;
+
+// The number that a word spells, or 0.
+fn number(word: Option<&str>) -> u64 {
+    word.unwrap_or("").parse().unwrap_or(0)
+}
+
+// The key that a word stands for; `-` is the empty one.
+fn key(alloc: Global, word: Option<&str>) -> Result<Bytes, AllocError> {
+    match word {
+        None | Some("-") => Ok(Bytes::new(alloc)),
+        Some(word) => Ok(Bytes::of(Vec::from_slice(alloc, word.as_bytes())?)),
+    }
+}
+
+// A hello of a store without labels, whose address is `a`.
+fn hello(alloc: Global, store: u64, moment: u64) -> Result<Request, NoMemory> {
+    Ok(Request::Hello {
+        store,
+        moment,
+        address: Text::of(String::from_str(alloc, "a")?),
+        labels: Labels::new(alloc),
+    })
+}
+
+// A region heartbeat of store 1 with one voter, the peer 11.
+fn beat(alloc: Global, line: &str) -> Result<Request, NoMemory> {
+    let mut words = line.split(' ');
+    let moment = number(words.next());
+    let id = number(words.next());
+    let start = key(alloc, words.next())?;
+    let end = key(alloc, words.next())?;
+    let conf_ver = number(words.next());
+    let version = number(words.next());
+    let leader = number(words.next());
+    let mut peers = Seq::new(alloc);
+    peers.push(Peer {
+        id: 11,
+        store: 1,
+        role: Role::Voter,
+    })?;
+    let region = Region {
+        id,
+        start,
+        end,
+        epoch: Epoch { conf_ver, version },
+        peers,
+    };
+    let beat = RegionBeat {
+        region,
+        leader,
+        down: Downs::new(alloc),
+        pending: Ids::new(alloc),
+    };
+    Ok(Request::Beat {
+        store: 1,
+        moment,
+        beat,
+    })
+}
+
+// The request that a line stands for: its kind, and its numbers.
+fn request(alloc: Global, line: &str) -> Result<Request, NoMemory> {
+    let (kind, rest) = line.split_once(' ').unwrap_or((line, ""));
+    if kind == "beat" {
+        return beat(alloc, rest);
+    }
+    let mut words = rest.split(' ');
+    let first = number(words.next());
+    let moment = number(words.next());
+    match kind {
+        "hello" => hello(alloc, first, moment),
+        "alive" => Ok(Request::Alive {
+            store: first,
+            moment,
+        }),
+        "term" => Ok(Request::Term {
+            term: first,
+            moment,
+        }),
+        _ => Ok(Request::Retire),
+    }
+}
+
+// What a cluster answers to a line, as it is printed.
+fn answer(alloc: Global, cluster: &mut Cluster, line: &str) -> Result<String, NoMemory> {
+    let reply = cluster.serve(Actor::Store(1), 7, request(alloc, line)?)?;
+    Ok(format!(in alloc; "{reply}")?)
+}
+
+// Serves each line, whose answer stands behind ` => `.
+fn serve_all(rt: &impl Abort, alloc: Global, lines: &str) -> Result<Cluster, Fail> {
+    let mut cluster = Cluster::new(alloc, 1);
+    for line in lines.lines() {
+        let (asked, want) = line.split_once(" => ").unwrap_or((line, ""));
+        let text = answer(alloc, &mut cluster, asked)?;
+        assert_eq!(rt; text.as_str(), want, "at {line}");
+    }
+    Ok(cluster)
+}
+
+// The beginning of a term, stale and overlapping heartbeats, and one whose leader is no peer.
+const STALE_AND_OVERLAPPING: &str = "\
+term 1 1000 => term 1 stores 0 rules 1
+beat 1000 7 - @ 1 6 11 => accepted removed 0 none
+beat 1001 8 20 ` 1 5 11 => stale conf 1 version 6
+beat 1002 9 @ - 1 6 11 => accepted removed 0 none
+beat 1003 10 - - 1 7 11 => accepted removed 2 none
+beat 1004 11 - - 1 8 51 => bad 5
+";
+
+#[test]
+fn stale_and_overlapping_heartbeats(rt: HostRuntime) -> Result<(), Fail> {
+    let alloc = rt.alloc();
+    let cluster = serve_all(&rt, alloc, STALE_AND_OVERLAPPING)?;
+    assert_eq!(rt; cluster.journal().len(), 6);
+    Ok(())
+}
+
+// Three stores and a region, as the gate of operators finds them later.
+const THREE_STORES: &str = "\
+term 1 1000 => term 1 stores 0 rules 1
+hello 1 1000 => store put
+hello 2 1000 => store put
+hello 3 1000 => store put
+beat 1000 7 - - 1 1 11 => accepted removed 0 none
+alive 1 21001 => alive
+";
+
+#[test]
+fn stores_say_hello_and_are_heard(rt: HostRuntime) -> Result<(), Fail> {
+    let alloc = rt.alloc();
+    let cluster = serve_all(&rt, alloc, THREE_STORES)?;
+    let Some(part) = cluster.part() else {
+        return Err(Fail::new("no term"));
+    };
+    assert_eq!(rt; part.clock, 21_001);
+    assert_eq!(rt; part.stores.is_live(1, 21_001), true);
+    assert_eq!(rt; part.stores.is_live(2, 21_001), false);
+    assert_eq!(rt; part.standing.leader_count(1), 1);
+    Ok(())
+}
+
+// Without a term nothing is served, and a new term forgets what the old one knew.
+const TERMS: &str = "\
+alive 1 500 => not-leading
+hello 1 500 => not-leading
+beat 500 7 - - 1 1 11 => not-leading
+retire => not-leading
+term 1 1000 => term 1 stores 0 rules 1
+alive 1 1000 => unknown-store
+hello 1 5000 => store put
+hello 1 4000 => store put
+beat 1000 7 - - 1 9 11 => accepted removed 0 none
+beat 1000 7 - - 1 8 11 => stale conf 1 version 9
+term 2 900 => term 2 stores 0 rules 1
+alive 1 900 => unknown-store
+beat 800 7 - - 1 8 11 => accepted removed 0 none
+retire => retired
+retire => not-leading
+alive 1 900 => not-leading
+";
+
+#[test]
+fn a_cluster_is_made_anew_with_its_term(rt: HostRuntime) -> Result<(), Fail> {
+    let alloc = rt.alloc();
+    let cluster = serve_all(&rt, alloc, TERMS)?;
+    assert_eq!(rt; cluster.journal().len(), 16);
+    assert_eq!(rt; cluster.part().is_none(), true);
+    Ok(())
+}
+
+// The clock doesn't step back, and rises also with a heartbeat that is refused.
+const CLOCK: &str = "\
+term 1 1000 => term 1 stores 0 rules 1
+beat 3000 7 - - 1 1 12 => bad 5
+alive 9 2000 => unknown-store
+";
+
+#[test]
+fn the_clock_is_the_greatest_moment(rt: HostRuntime) -> Result<(), Fail> {
+    let alloc = rt.alloc();
+    let cluster = serve_all(&rt, alloc, CLOCK)?;
+    let clock = cluster.part().map(|part| part.clock);
+    assert_eq!(rt; clock, Some(3000));
+    Ok(())
+}
+
+#[test]
+fn the_257th_store_is_refused(rt: HostRuntime) -> Result<(), Fail> {
+    let alloc = rt.alloc();
+    let mut cluster = Cluster::new(alloc, 1);
+    let begin = Request::Term {
+        term: 1,
+        moment: 1000,
+    };
+    cluster.serve(Actor::Driver(1), 1, begin)?;
+    for store in 1..258u64 {
+        let want = if store < 257 {
+            Reply::StorePut
+        } else {
+            Reply::Limit
+        };
+        let reply = cluster.serve(Actor::Store(store), 2, hello(alloc, store, 1000)?)?;
+        assert_eq!(rt; reply, want, "at {store}");
+    }
+    Ok(())
+}
+
+#[test]
+fn an_entry_has_its_actor_line_and_request(rt: HostRuntime) -> Result<(), Fail> {
+    let alloc = rt.alloc();
+    let mut cluster = Cluster::new(alloc, 1);
+    cluster.serve(Actor::Store(4), 9, request(alloc, "alive 4 500")?)?;
+    let Some(entry) = cluster.journal().as_slice().first() else {
+        return Err(Fail::new("no entry"));
+    };
+    assert_eq!(rt; entry.actor, Actor::Store(4));
+    assert_eq!(rt; entry.line, 9);
+    assert!(rt; entry.request == request(alloc, "alive 4 500")?);
+    assert_eq!(rt; entry.reply, Reply::NotLeading);
+    Ok(())
+}
+
+// The texts that the scripts above don't have.
+#[test]
+fn replies_are_printed(rt: HostRuntime) -> Result<(), Fail> {
+    let rows = [
+        (Reply::Tombstone, "tombstone"),
+        (Reply::Limit, "limit"),
+        (Reply::Full, "full"),
+        (Reply::Bad(BeatFault::NoPeers), "bad 1"),
+        (Reply::Bad(BeatFault::LongKey), "bad 8"),
+    ];
+    for (reply, want) in rows {
+        let text = format!(in rt.alloc(); "{reply}")?;
+        assert_eq!(rt; text.as_str(), want);
+    }
+    Ok(())
+}

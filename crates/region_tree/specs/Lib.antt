@@ -1,0 +1,4 @@
+pub mod Ranges
+pub mod Standing
+pub mod Stale
+pub mod Cover

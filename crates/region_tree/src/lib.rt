@@ -1,0 +1,16 @@
+//! The regions that stand: what region heartbeats told of the key space, in key order.
+#![tactic(auto)]
+
+mod cover;
+mod fault;
+mod laws;
+mod places;
+mod range;
+mod stale;
+mod table;
+#[cfg(test)]
+mod tests;
+
+pub use fault::RegionFault;
+pub use laws::{overlapping_ranges_share_a_key, what_stands_is_the_table};
+pub use table::{MOST_REGIONS, Regions, Removed};
