@@ -1,29 +1,26 @@
 use crate::{RuleFault, print_rule, read_rule};
-use pd_types::{Bytes, Constraints, Rule, RuleRole, Text, Texts};
+use pd_types::Bytes;
 use std::alloc::Global;
 use std::test::Fail;
 
-const DEFAULT_RULE: &str =
-    r#"{"count":3,"end_key":"","group_id":"pd","id":"default","index":0,"label_constraints":[],"location_labels":[],"override":false,"role":"voter","start_key":""}"#;
-
-// Texts that are read.
+// Texts that are read, first the default rule (PD documentation, "Placement Rules").
 const READ: &str =
-    r#"{"group_id":"pd","id":"x","role":"voter","count":1,"start_key":"40","color":"red"}
-{"role":"voter","id":"default","group_id":"pd","count":3,"index":null,"override":null,"start_key":null,"end_key":null,"label_constraints":null,"location_labels":null,"isolation_level":null}
+    r#"{"role":"voter","id":"default","group_id":"pd","count":3,"index":null,"override":null,"start_key":null,"end_key":null,"label_constraints":null,"location_labels":null,"isolation_level":null}
+{"group_id":"pd","id":"x","role":"voter","count":1,"start_key":"40","color":"red"}
 {"group_id":"pd","id":"f","index":4294967295,"override":true,"start_key":"4A","end_key":"4b00","role":"follower","count":15,"location_labels":["zone","rack","host","zone"],"isolation_level":""}
 {"group_id":"\u0070d","id":"q\"","role":"learner","count":2,"count":1,"label_constraints":[{"key":"engine","op":"in","values":["tiflash","x"]},{"op":"notIn","key":"disk","values":null}]}
 {"group_id":"pd","id":"l","role":"leader","count":1,"label_constraints":[{"key":"a","op":"exists"},{"key":"b","op":"notExists"}]}"#;
 
 // What is printed of each.
 const PRINTED: &str =
-    r#"{"count":1,"end_key":"","group_id":"pd","id":"x","index":0,"label_constraints":[],"location_labels":[],"override":false,"role":"voter","start_key":"40"}
-{"count":3,"end_key":"","group_id":"pd","id":"default","index":0,"label_constraints":[],"location_labels":[],"override":false,"role":"voter","start_key":""}
+    r#"{"count":3,"end_key":"","group_id":"pd","id":"default","index":0,"label_constraints":[],"location_labels":[],"override":false,"role":"voter","start_key":""}
+{"count":1,"end_key":"","group_id":"pd","id":"x","index":0,"label_constraints":[],"location_labels":[],"override":false,"role":"voter","start_key":"40"}
 {"count":15,"end_key":"4b00","group_id":"pd","id":"f","index":4294967295,"label_constraints":[],"location_labels":["zone","rack","host","zone"],"override":true,"role":"follower","start_key":"4a"}
 {"count":1,"end_key":"","group_id":"pd","id":"q\"","index":0,"label_constraints":[{"key":"engine","op":"in","values":["tiflash","x"]},{"key":"disk","op":"notIn","values":[]}],"location_labels":[],"override":false,"role":"learner","start_key":""}
 {"count":1,"end_key":"","group_id":"pd","id":"l","index":0,"label_constraints":[{"key":"a","op":"exists","values":[]},{"key":"b","op":"notExists","values":[]}],"location_labels":[],"override":false,"role":"leader","start_key":""}"#;
 
 // The number of the first test that each text fails, 0 where it fails none. The first ten fail one
-// test alone; of the next nine each fails a later test too.
+// test alone; of the next nine each would fail a later test too.
 const FAULTS: &str = r#"1 {
 2 []
 3 {"group_id":"pd","id":"x","role":"voter"}
@@ -102,30 +99,6 @@ fn prints_the_ten_fields_of_what_it_reads(rt: HostRuntime) -> Result<(), Fail> {
         let again = printed(alloc, want)?;
         assert_eq!(rt; again.as_slice(), want.as_bytes(), "{want}");
     }
-    Ok(())
-}
-
-// PD documentation, "Placement Rules": three voters anywhere.
-fn default_rule(alloc: Global) -> Result<Rule, Fail> {
-    Ok(Rule {
-        group: Text::of(String::from_str(alloc, "pd")?),
-        id: Text::of(String::from_str(alloc, "default")?),
-        index: 0,
-        overrides: false,
-        start: Bytes::new(alloc),
-        end: Bytes::new(alloc),
-        role: RuleRole::Voter,
-        count: 3,
-        constraints: Constraints::new(alloc),
-        locations: Texts::new(alloc),
-    })
-}
-
-#[test]
-fn prints_the_default_rule(rt: HostRuntime) -> Result<(), Fail> {
-    let rule = default_rule(rt.alloc())?;
-    let bytes = print_rule(rt.alloc(), &rule)?;
-    assert_eq!(rt; bytes.as_slice(), DEFAULT_RULE.as_bytes());
     Ok(())
 }
 
