@@ -1,5 +1,5 @@
 use crate::{RemoveFault, RuleSet, SetFault};
-use pd_types::{Bytes, Constraints, Epoch, Peers, Region, Rule, RuleRole, Text, Texts};
+use pd_types::{Bytes, Constraints, Epoch, Peers, Region, Rule, RuleRole, Rules, Text, Texts};
 use std::alloc::Global;
 use std::test::Fail;
 
@@ -90,6 +90,21 @@ fn a_rule_is_set_in_place_of_its_name(rt: HostRuntime) -> Result<(), Fail> {
     assert_eq!(rt; set.remove(b"pd", b"b"), Err(RemoveFault::Absent));
     assert_eq!(rt; set.remove(b"pd", b"a"), Ok(()));
     assert_eq!(rt; set.remove(b"pd", b"default"), Err(RemoveFault::LastRule));
+    Ok(())
+}
+
+// PD documentation, "Placement Rules": rules go by group, then index, then id.
+#[test]
+fn a_list_of_rules_is_put_in_order(rt: HostRuntime) -> Result<(), Fail> {
+    let alloc = rt.alloc();
+    let mut rules = Rules::new(alloc);
+    for (id, index) in [("b", 2), ("c", 1), ("a", 2)] {
+        rules.push(rule(alloc, id, index, false, "", "")?)?;
+    }
+    assert!(rt; !rules.is_empty() && rules.len() <= 64);
+    let set = RuleSet::of(alloc, rules)?;
+    let found = names(alloc, set.rules().as_slice())?;
+    assert_eq!(rt; found.as_str(), "c a b ");
     Ok(())
 }
 

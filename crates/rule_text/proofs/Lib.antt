@@ -1,0 +1,5 @@
+pub mod Again
+pub mod LawLemmas
+pub mod Lists
+pub mod Printed
+pub mod Readable

@@ -1,0 +1,5 @@
+pub mod Fields
+pub mod Meaning
+pub mod Readable
+pub mod Tests
+pub mod Words

@@ -1,0 +1,18 @@
+//! The JSON text of placement rules: reading and printing.
+#![tactic(auto)]
+
+mod build;
+mod fault;
+mod fields;
+mod kinds;
+mod laws;
+mod print;
+mod read;
+#[cfg(test)]
+mod tests;
+mod words;
+
+pub use fault::RuleFault;
+pub use laws::what_is_printed_is_read;
+pub use print::print_rule;
+pub use read::read_rule;
