@@ -1,5 +1,5 @@
 -- Each change of an operator's state is one of the table of its life.
-use Rattle.std.proofs.Common.{◌≡◌, ◌-◌, ℕ, Bool, true, false, cond, nat_lt, List, [], ◌∷◌, take, drop, IsTrue, refl, Option, Some, None, Result, Ok, Err}
+use Rattle.std.proofs.Common.{ℕ, Bool, true, false, cond, List, [], ◌∷◌, drop, IsTrue, refl, Some, None, Result, Ok, Err}
 use Rattle.std.proofs.lemmas.Bool.{false≢true}
 use Rattle.pd_types.specs.declared.region.RegionBeat.{RegionBeat}
 use Rattle.pd_types.specs.declared.step.Step.{Step}
@@ -12,7 +12,7 @@ use Rattle.op_control.specs.declared.operator.OpState.TheVariants.{Created, Star
 use Rattle.op_control.specs.declared.turn.Dispatch.{Dispatch}
 use Rattle.op_control.specs.declared.turn.Dispatch.TheVariants as dispatch
 use Rattle.op_control.specs.Life.{is_active, Lives, RegionLeft, Removed}
-use Rattle.op_control.specs.Turn.{answer_at, answer_of, is_astray, late_in, moves, passed_by, sent_by, state_after, turned, unless_late, with_left}
+use Rattle.op_control.specs.Turn.{answer_of, is_astray, late_in, moves, passed_by, sent_by, state_after, turned, unless_late, with_left}
 
 -- the answer moves an operator in that state by the table
 abbrev Moved : OpState → Dispatch → Type 0

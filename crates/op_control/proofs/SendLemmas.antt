@@ -1,5 +1,5 @@
 -- What a heartbeat's answer sends is a safe step.
-use Rattle.std.proofs.Common.{◌≡◌, ◌*◌, ℕ, Bool, true, false, cond, not, List, [], ◌∷◌, drop, refl, sym, ap, ◌∙◌, IsTrue, Option, Some, None, Result, Ok, Err, is_ok}
+use Rattle.std.proofs.Common.{◌≡◌, ◌*◌, ℕ, Bool, true, false, cond, not, List, [], ◌∷◌, drop, refl, ap, Option, Some, None, Result, Ok, Err, is_ok}
 use Rattle.std.proofs.lemmas.Bool.{false≢true, ltb-true}
 use Rattle.pd_types.specs.declared.region.RegionBeat.{RegionBeat}
 use Rattle.pd_types.specs.declared.step.Step.{Step}

@@ -1,5 +1,5 @@
 -- The scan over the voters that can take the lead finds the one of the least id.
-use Rattle.std.proofs.Common.{◌≡◌, ℕ, ◌<◌, ◌≤◌, Bool, true, false, cond, nat_le, List, [], ◌∷◌, filter, fold, length, suc, refl, sym, ap, ◌∙◌, ◌⊎◌, inl, inr, ⊎_elim, IsTrue, arith, Option, Some, None, All, Contains}
+use Rattle.std.proofs.Common.{◌≡◌, ℕ, ◌≤◌, Bool, true, false, cond, nat_le, List, [], ◌∷◌, filter, fold, suc, refl, sym, ap, ◌∙◌, ◌⊎◌, inl, inr, IsTrue, arith, Option, Some, None, All, Contains}
 use Rattle.std.proofs.lemmas.Bool.{false≢true, leb-true, leb-false}
 use Rattle.std.proofs.lemmas.List.Elements.{All-nil, All-cons}
 use Rattle.pd_types.specs.declared.region.Peer.{Peer}

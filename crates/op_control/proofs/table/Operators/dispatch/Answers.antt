@@ -1,4 +1,4 @@
-use Rattle.std.proofs.Common.{◌≡◌, sym, ap, ◌∙◌, IsTrue, Some}
+use Rattle.std.proofs.Common.{◌≡◌, sym, IsTrue, Some}
 use Rattle.std.specs.FinMap as map
 use Rattle.op_control.specs.Table.{active_by}
 use Rattle.op_control.specs.Written.{progressed}
