@@ -13,12 +13,12 @@ use Rattle.op_control.specs.Life.{HigherPriority, Lives, Where}
 use Rattle.op_control.specs.Table.{active_at, state_of, Table}
 use Rattle.op_control.specs.Turn.{moves}
 
--- the region's operator, which hadn't ended, is then in a state to which the table leads from its own, there
+-- the region's operator, where it hadn't ended, is afterwards in a state to which the table lets it go there
 abbrev pub LivesOn : Table → Table → ℕ → Where → Type 0
 LivesOn before after region at =
     (op : Operator) → active_at before region ≡ Some op → (to : OpState) × (state_of after region ≡ Some to) × Lives op.state to at
 
--- the same at a heartbeat, where the answer says; a step that is held or sent again leaves the state
+-- the same at a heartbeat, by the line of the table that its answer names; a step that is held or sent again leaves the state
 abbrev pub LivesBy : Table → Table → ℕ → Dispatch → Type 0
 LivesBy before after region answer =
     (op : Operator) → active_at before region ≡ Some op → (to : OpState) × (state_of after region ≡ Some to) × IsTrue (moves op.state to answer)
