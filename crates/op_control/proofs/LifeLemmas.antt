@@ -1,5 +1,5 @@
 -- Each change of an operator's state is one of the table of its life.
-use Rattle.std.proofs.Common.{◌≡◌, ◌-◌, ℕ, Bool, true, false, cond, nat_lt, List, [], ◌∷◌, take, drop, IsTrue, refl, Option, Some, None, Result, Ok, Err}
+use Rattle.std.proofs.Common.{ℕ, Bool, true, false, cond, List, [], ◌∷◌, drop, IsTrue, refl, Some, None, Result, Ok, Err}
 use Rattle.std.proofs.lemmas.Bool.{false≢true}
 use Rattle.pd_types.specs.declared.region.RegionBeat.{RegionBeat}
 use Rattle.pd_types.specs.declared.step.Step.{Step}
@@ -11,9 +11,8 @@ use Rattle.op_control.specs.declared.operator.OpState.{OpState}
 use Rattle.op_control.specs.declared.operator.OpState.TheVariants.{Created, Started, Success, Canceled, Replaced, Expired, Timeout}
 use Rattle.op_control.specs.declared.turn.Dispatch.{Dispatch}
 use Rattle.op_control.specs.declared.turn.Dispatch.TheVariants as dispatch
-use Rattle.op_control.specs.Life.{is_active, HigherPriority, Lives, RegionLeft, Removed}
-use Rattle.op_control.specs.Table.{cancel}
-use Rattle.op_control.specs.Turn.{answer_at, answer_of, is_astray, late_in, moves, passed_by, sent_by, state_after, turned, unless_late, with_left}
+use Rattle.op_control.specs.Life.{is_active, Lives, RegionLeft, Removed}
+use Rattle.op_control.specs.Turn.{answer_of, is_astray, late_in, moves, passed_by, sent_by, state_after, turned, unless_late, with_left}
 
 -- the answer moves an operator in that state by the table
 abbrev Moved : OpState → Dispatch → Type 0
@@ -74,7 +73,7 @@ pub moved-turned : (op : Operator) (beat : RegionBeat) (stores : List StoreEntry
 moved-turned op beat stores now active =
     moved-astray op.state active (is_astray (passed_by op beat) op beat) _ (moved-left (drop (passed_by op beat) op.steps) op beat stores now active)
 
-removed-by : (state : OpState) → IsTrue (is_active state) → Lives state Canceled Removed
+pub removed-by : (state : OpState) → IsTrue (is_active state) → Lives state Canceled Removed
 removed-by Created active = refl
 removed-by Started active = refl
 removed-by Success active = absurd (false≢true active)
@@ -83,7 +82,7 @@ removed-by Replaced active = absurd (false≢true active)
 removed-by Expired active = absurd (false≢true active)
 removed-by Timeout active = absurd (false≢true active)
 
-gone-by : (state : OpState) → IsTrue (is_active state) → Lives state Canceled RegionLeft
+pub gone-by : (state : OpState) → IsTrue (is_active state) → Lives state Canceled RegionLeft
 gone-by Created active = refl
 gone-by Started active = refl
 gone-by Success active = absurd (false≢true active)
@@ -91,21 +90,3 @@ gone-by Canceled active = absurd (false≢true active)
 gone-by Replaced active = absurd (false≢true active)
 gone-by Expired active = absurd (false≢true active)
 gone-by Timeout active = absurd (false≢true active)
-
-replaced-by : (state : OpState) → IsTrue (is_active state) → Lives state Replaced HigherPriority
-replaced-by Created active = refl
-replaced-by Started active = refl
-replaced-by Success active = absurd (false≢true active)
-replaced-by Canceled active = absurd (false≢true active)
-replaced-by Replaced active = absurd (false≢true active)
-replaced-by Expired active = absurd (false≢true active)
-replaced-by Timeout active = absurd (false≢true active)
-
-pub removed-lives : (op : Operator) → IsTrue (is_active op.state) → Lives op.state (cancel op).state Removed
-removed-lives op active = removed-by op.state active
-
-pub gone-lives : (op : Operator) → IsTrue (is_active op.state) → Lives op.state (cancel op).state RegionLeft
-gone-lives op active = gone-by op.state active
-
-pub replaced-lives : (op : Operator) → IsTrue (is_active op.state) → Lives op.state Replaced HigherPriority
-replaced-lives op active = replaced-by op.state active

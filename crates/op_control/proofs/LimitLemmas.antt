@@ -9,7 +9,7 @@ use Rattle.store_limit.specs.declared.bucket.Buckets.{Buckets}
 use Rattle.store_limit.specs.declared.limits.LimitKind.{LimitKind}
 use Rattle.store_limit.specs.declared.limits.LimitKind.TheVariants as kinds
 use Rattle.store_limit.specs.Level.{Level, available_at, cap_of, charged}
-use Rattle.store_limit.specs.Limits.{StoreLimits, available_in, changed_by, level_of, taken, with_level}
+use Rattle.store_limit.specs.Limits.{StoreLimits, available_in, changed_by, level_of, with_level}
 use Rattle.op_control.specs.Charging.{after_charges, charge_of, charged_by}
 use Rattle.op_control.specs.Counting.{count_same, is_same, same_kind}
 use Rattle.op_control.proofs.TableLemmas.{get-insert}

@@ -1,14 +1,13 @@
 -- The list of busy regions stays that of the operators that haven't ended.
-use Rattle.std.proofs.Common.{◌≡◌, ◌==◌, ℕ, Bool, true, false, cond, ◌||◌, List, [], refl, sym, ap, subst, ◌∙◌, ⊎_elim, eqb, Option, Some, None, is_some, IsSome}
+use Rattle.std.proofs.Common.{◌≡◌, ◌==◌, ℕ, Bool, true, false, cond, ◌||◌, List, [], refl, sym, ap, ◌∙◌, ⊎_elim, eqb, Option, Some, None, is_some, IsSome}
 use Rattle.std.proofs.lemmas.Bool.{cases_eq, eq-eqb, ne_eqb, false≢true}
 use Rattle.std.specs.List.{list_any}
-use Rattle.std.specs.Ordering.{nat_cmp, eq_by_cmp}
+use Rattle.std.specs.Ordering.{nat_cmp}
 use Rattle.std.specs.Cmp.{nat_cmp_total, unsigned_tied}
 use Rattle.std.specs.FinMap as map
 use Rattle.op_control.specs.declared.operator.Operator.{Operator}
-use Rattle.op_control.specs.declared.operator.OpState.{OpState}
 use Rattle.op_control.specs.Life.{is_active}
-use Rattle.op_control.specs.Table.{active_at, active_by, joined, listed, without, IsListed, Table}
+use Rattle.op_control.specs.Table.{active_by, joined, without, IsListed}
 use Rattle.op_control.proofs.ListLemmas.{any-joined, any-without, rising-joined, rising-without}
 
 pub get-insert : {X : Type 0} (m : map.FinMap nat_cmp X) (k : ℕ) (v : X) (q : ℕ) → map.get (map.insert m k v) q ≡ cond (eqb q k) (Some v) (map.get m q)

@@ -1,4 +1,5 @@
 pub mod Adding
+pub mod Changes
 pub mod Charging
 pub mod Counting
 pub mod Life

@@ -1,6 +1,6 @@
 -- The operators of a term: the last one of each region, and the regions whose operator hasn't ended (PD, the operator
 -- controller; pd-ctl, `operator show` and `operator check`).
-use Rattle.std.specs.Prelude.{◌≡◌, ℕ, ◌+◌, ◌<◌, nat_lt, ◌==◌, not, Bool, List, [], ◌∷◌, filter, insert, if◌then◌else◌, is_some, Option, Some, None, slice_get}
+use Rattle.std.specs.Prelude.{◌≡◌, ℕ, ◌<◌, nat_lt, ◌==◌, not, List, [], ◌∷◌, filter, if◌then◌else◌, is_some, Option, Some, None, slice_get}
 use Rattle.std.specs.List.{list_any}
 use Rattle.std.specs.Option.{option_map, option_and_then}
 use Rattle.std.specs.Ordering.{nat_cmp}

@@ -10,10 +10,10 @@ use Rattle.op_step.specs.Safe.{gate_of}
 use Rattle.op_control.specs.declared.operator.TheConstants.{EXPIRED_MS, TIMEOUT_MS, LAST_PLACE}
 use Rattle.op_control.specs.declared.operator.Operator.{Operator}
 use Rattle.op_control.specs.declared.operator.OpState.{OpState}
-use Rattle.op_control.specs.declared.operator.OpState.TheVariants.{Created, Started, Success, Canceled, Replaced, Expired, Timeout}
+use Rattle.op_control.specs.declared.operator.OpState.TheVariants.{Created, Started, Success, Canceled, Expired, Timeout}
 use Rattle.op_control.specs.declared.turn.Dispatch.{Dispatch}
 use Rattle.op_control.specs.declared.turn.Dispatch.TheVariants as dispatch
-use Rattle.op_control.specs.Life.{lives, Where, FirstSend, NoStepLeft, ConfVerGrew, TooLate}
+use Rattle.op_control.specs.Life.{lives, FirstSend, NoStepLeft, ConfVerGrew, TooLate}
 
 -- how many steps from the first on the heartbeat shows as finished
 abbrev pub finished_count : RegionBeat → List Step → ℕ

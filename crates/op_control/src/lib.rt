@@ -2,12 +2,12 @@
 #![tactic(auto)]
 
 mod charging;
-mod laws;
 mod operator;
 mod table;
+#[cfg(test)]
+mod tests;
 mod turn;
 
-pub use laws::operators_live_by_the_table;
 pub use operator::{EXPIRED_MS, NewOp, OpState, Operator, TIMEOUT_MS};
 pub use table::{Absent, AddFault, MOST_OPERATORS, Operators};
 pub use turn::Dispatch;

@@ -3,8 +3,9 @@ ghost use Rattle.std.specs.Prelude.{◌≡◌, ◌==◌, false, true, ◌↔◌,
 ghost use Rattle.std.specs.Option.{option_copied};
 ghost use Rattle.std.specs.FinMap as map;
 ghost use Rattle.op_control.specs.Adding.{added, busy_with, created, priority_refusal, refusal_of, room_refusal, same_epoch, RefusedBy};
+ghost use Rattle.op_control.specs.Changes.{LivesBy, LivesOn, Replaces, SendsSafe};
 ghost use Rattle.op_control.specs.Charging.{after_charges, first_refused};
-ghost use Rattle.op_control.specs.Life.{is_active};
+ghost use Rattle.op_control.specs.Life.{is_active, RegionLeft, Removed};
 ghost use Rattle.op_control.specs.Table.{active_at, active_by, canceled, cancel, dispatch_answer, dispatched, joined, op_at, state_of, without, with_op, IsListed};
 ghost use Rattle.op_control.specs.Written.{progressed};
 ghost use Rattle.std.specs.List.{list_any};
@@ -301,6 +302,8 @@ impl Operators {
     pub fn dispatch(&mut self, beat: &RegionBeat, stores: &Stores, now: u64) -> Dispatch
         ensures answer { result ≡ dispatch_answer self.old beat.now stores.now now }
         ensures value { self.new ≡ dispatched self.old beat.now stores.now now }
+        ensures life { LivesBy self.old self.new beat.now.region.id result }
+        ensures safe { SendsSafe result beat.now stores.now now }
     {
         let region = beat.region.id;
         let Some(op) = active(&self.last, region) else {
@@ -376,6 +379,7 @@ impl Operators {
         ensures accepted { OnOk result (refusal_of self.old op (option_copied kept.entry) limits.old now ≡ None) }
         ensures refused { IfErr result (RefusedBy (refusal_of self.old op (option_copied kept.entry) limits.old now)) }
         ensures ok { OnOk result (self.new ≡ added self.old op now) }
+        ensures replaced { OnOk result (Replaces self.old op) }
         ensures charged { OnOk result (limits.new ≡ after_charges op.steps limits.old now) }
         ensures err { OnErr result (self.new ≡ self.old) }
         ensures limits { OnErr result (limits.new ≡ limits.old) }
@@ -394,6 +398,7 @@ impl Operators {
     pub fn remove(&mut self, region: u64) -> Result<(), Absent>
         ensures absent { IsErr result ↔ (active_at self.old region ≡ None) }
         ensures value { self.new ≡ canceled self.old region }
+        ensures life { LivesOn self.old self.new region Removed }
     {
         let Some(op) = active(&self.last, region) else {
             return Err(Absent);
@@ -411,6 +416,7 @@ impl Operators {
     /// The region left the table: its operator ends as Canceled, where it has one.
     pub fn gone(&mut self, region: u64)
         ensures value { self.new ≡ canceled self.old region }
+        ensures life { LivesOn self.old self.new region RegionLeft }
     {
         let _ = self.remove(region);
     }

@@ -1,6 +1,7 @@
 // The steps of a wish.
 ghost use Rattle.std.specs.Prelude.{◌≡◌, ◌∷◌, ◌++◌, [], not, IfOk, IfErr, OnOk, map};
 ghost use Rattle.op_step.specs.Wishes.{add_plan, lead_by, may_lead, move_by, move_plan, next_leader, next_part, plan_of, promote_part, lead_part, remove_by, remove_plan, step_with, transfer_plan, is_unknown, lesser, given, FaultOf};
+ghost use Rattle.op_step.specs.NextLeader.{IsNext};
 ghost use Rattle.op_step.specs.declared.wishes.BuildFault.TheVariants as faults;
 
 use crate::peers::{has_store, is_target, is_voter, peer_on};
@@ -291,6 +292,7 @@ pub fn build(
 ) -> Result<Steps, BuildFault>
     ensures ok { IfOk result (λ steps. plan_of wish.now beat.now stores.now now ≡ Ok steps) }
     ensures fault { IfErr result (FaultOf (plan_of wish.now beat.now stores.now now)) }
+    ensures next { IsNext beat.now stores.now now (next_leader beat.now stores.now now) }
 {
     match *wish {
         Wish::AddPeer { store } => add_steps(alloc, store, beat, stores, now),

@@ -1,4 +1,4 @@
-use Rattle.std.proofs.Common.{◌≡◌, ◌+◌, ◌≤◌, drop, take}
+use Rattle.std.proofs.Common.{◌≡◌, drop}
 use Rattle.op_control.specs.Charging.{after_charges, first_refused}
 use Rattle.std.proofs.Common.{None}
 use Rattle.op_control.proofs.charging.charge_all.Given as goal

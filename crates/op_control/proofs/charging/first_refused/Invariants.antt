@@ -1,4 +1,4 @@
-use Rattle.std.proofs.Common.{◌≡◌, ◌+◌, ◌≤◌, drop, take}
+use Rattle.std.proofs.Common.{◌≡◌, drop, take}
 use Rattle.op_control.specs.Charging.{after_charges, first_refused}
 use Rattle.op_control.proofs.charging.first_refused.Given as goal
 

@@ -1,4 +1,4 @@
-use Rattle.std.proofs.Common.{◌≡◌, ◌+◌, ◌≤◌, drop, take}
+use Rattle.std.proofs.Common.{◌≡◌, drop, take}
 use Rattle.std.proofs.Common.{◌++◌}
 use Rattle.op_control.specs.Table.{joined}
 use Rattle.op_control.proofs.table.place_of.Given as goal

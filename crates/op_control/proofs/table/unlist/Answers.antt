@@ -1,4 +1,4 @@
-use Rattle.std.proofs.Common.{◌≡◌, ◌==◌, not, sym, ap, ◌∙◌, rules, of_calls}
+use Rattle.std.proofs.Common.{◌==◌, not, ap, ◌∙◌, rules, of_calls}
 use Rattle.std.proofs.lemmas.Fn.{filter_same}
 use Rattle.op_control.specs.Table.{without}
 use Rattle.op_control.proofs.table.unlist.Goals as goal

@@ -1,4 +1,4 @@
-use Rattle.std.proofs.Common.{◌≡◌, ap, sym, subst, ◌∙◌, IsSome, Some}
+use Rattle.std.proofs.Common.{◌≡◌, ap, sym, ◌∙◌, Some}
 use Rattle.std.specs.FinMap as map
 use Rattle.id_map.proofs.Tables.{insert-insert}
 use Rattle.op_control.specs.Written.{progressed}

@@ -1,4 +1,4 @@
-use Rattle.std.proofs.Common.{◌≡◌, ◌+◌, ◌≤◌, drop, take}
+use Rattle.std.proofs.Common.{◌≡◌, ◌+◌, ◌≤◌, drop}
 use Rattle.op_control.specs.Turn.{conf_changes}
 use Rattle.op_control.proofs.turn.conf_changes.Given as goal
 

@@ -1,4 +1,4 @@
-use Rattle.std.proofs.Common.{◌≡◌, ◌+◌, ◌≤◌, drop, take}
+use Rattle.std.proofs.Common.{◌≡◌, ◌+◌, ◌≤◌, drop}
 use Rattle.op_control.specs.Turn.{finished_count}
 use Rattle.op_control.proofs.turn.finished_count.Given as goal
 

@@ -1,1 +1,0 @@
-use Rattle.op_control.proofs.table.charge_stored.Goals as goal
