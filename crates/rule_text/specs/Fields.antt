@@ -3,6 +3,7 @@ use Rattle.std.specs.Prelude.{ℕ, List, [], ◌∷◌, Bool, false, nat_lt, if�
 use Rattle.serde_json.specs.Data.{Data, Items, no_items, item}
 use Rattle.serde_json.specs.Find.{get, as_null, as_bool, as_str, as_array, as_number, as_u64}
 
+-- the value, where it is not null
 abbrev pub unless_null : Data → Option Data
 unless_null d = if is_some (as_null d) then None else Some d
 
@@ -10,6 +11,7 @@ unless_null d = if is_some (as_null d) then None else Some d
 abbrev pub given : List ℕ → Data → Option Data
 given name rule = option_and_then unless_null (get name rule)
 
+-- the items as a list
 abbrev pub list_of : Items → List Data
 list_of no_items = []
 list_of (item d ds) = d ∷ list_of ds
@@ -30,6 +32,7 @@ text_of d = unwrap_or (as_str d) []
 abbrev pub text_at : List ℕ → Data → List ℕ
 text_at name rule = unwrap_or (option_and_then as_str (get name rule)) []
 
+-- a number below 2 to the 32nd, else 0
 abbrev pub word_in : Option ℕ → ℕ
 word_in None = 0
 word_in (Some n) = if nat_lt n 4294967296 then n else 0

@@ -12,6 +12,7 @@ use Rattle.pd_types.specs.declared.rule.Rule.{Rule}
 use Rattle.rule_text.specs.Fields.{items_at, text_of, text_at, number_at, truth_at}
 use Rattle.rule_text.specs.Words.{role_of, role_word, op_of, op_word}
 
+-- at most 256 bytes, where the text was hexadecimal
 abbrev pub within : Result (List ℕ) FromHexError → Option (List ℕ)
 within (Ok bytes) = if nat_le (length bytes) 256 then Some bytes else None
 within (Err e) = None
@@ -60,6 +61,7 @@ abbrev pub constraint_data : Constraint → Data
 constraint_data one =
     object (member (codes "key") (string one.key) (member (codes "op") (string (op_word one.op)) (member (codes "values") (texts_data one.values) no_members)))
 
+-- a list of constraints
 abbrev pub constraints_data : List Constraint → Data
 constraints_data ones = array (items_of (map constraint_data ones))
 

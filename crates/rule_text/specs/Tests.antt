@@ -39,9 +39,11 @@ abbrev pub may_pass : (Data → Bool) → Option Data → Bool
 may_pass test None = true
 may_pass test (Some d) = test d
 
+-- a text
 abbrev pub is_text : Data → Bool
 is_text d = is_some (as_str d)
 
+-- 1 to 64 bytes, where it is a text
 abbrev pub has_name_length : Option (List ℕ) → Bool
 has_name_length None = false
 has_name_length (Some text) = nat_lt 0 (length text) && nat_le (length text) 64
@@ -50,6 +52,7 @@ has_name_length (Some text) = nat_lt 0 (length text) && nat_le (length text) 64
 abbrev pub is_name : Data → Bool
 is_name d = has_name_length (as_str d)
 
+-- below 2 to the 32nd, where it is a whole number
 abbrev pub fits_word : Option ℕ → Bool
 fits_word None = false
 fits_word (Some n) = nat_lt n 4294967296
@@ -58,6 +61,7 @@ fits_word (Some n) = nat_lt n 4294967296
 abbrev pub is_number : Data → Bool
 is_number d = fits_word (option_and_then as_u64 (as_number d))
 
+-- a list whose items all pass
 abbrev pub all_in : (Data → Bool) → Option (List Data) → Bool
 all_in test None = false
 all_in test (Some ds) = list_all test ds
@@ -66,6 +70,7 @@ all_in test (Some ds) = list_all test ds
 abbrev pub are_texts : Data → Bool
 are_texts d = all_in is_text (list_in d)
 
+-- at most 4, where it is a list
 abbrev pub are_few : Option (List Data) → Bool
 are_few None = false
 are_few (Some ds) = nat_le (length ds) 4
@@ -84,6 +89,7 @@ is_constraint d =
 abbrev pub are_constraints : Data → Bool
 are_constraints d = all_in is_constraint (list_in d)
 
+-- a truth value
 abbrev pub is_truth : Data → Bool
 is_truth d = is_some (as_bool d)
 
@@ -110,9 +116,11 @@ is_of_kind rule = are_needed rule && are_optional rule
 abbrev pub has_keys : Data → Bool
 has_keys rule = is_some (key_at (codes "start_key") rule) && is_some (key_at (codes "end_key") rule)
 
+-- the role is known
 abbrev pub has_role : Data → Bool
 has_role rule = is_some (role_of (text_at (codes "role") rule))
 
+-- the operator is known
 abbrev pub has_op : Data → Bool
 has_op one = is_some (op_of (text_at (codes "op") one))
 
@@ -127,9 +135,11 @@ is_count roles.Leader n = nat_eq n 1
 is_count roles.Follower n = nat_le 1 n && nat_le n 15
 is_count roles.Learner n = nat_le 1 n && nat_le n 15
 
+-- the count is one that the role allows
 abbrev pub has_count : Data → Bool
 has_count rule = is_count (role_at rule) (number_at (codes "count") rule)
 
+-- no bytes
 abbrev pub is_empty : List ℕ → Bool
 is_empty [] = true
 is_empty (byte ∷ bytes) = false
@@ -138,9 +148,11 @@ is_empty (byte ∷ bytes) = false
 abbrev pub is_range : List ℕ → List ℕ → Bool
 is_range start end = is_empty end || is_lt (slice_cmp nat_cmp start end)
 
+-- the range holds a key
 abbrev pub has_range : Data → Bool
 has_range rule = is_range (bytes_at (codes "start_key") rule) (bytes_at (codes "end_key") rule)
 
+-- no isolation level is set, or the empty one
 abbrev pub has_no_level : Data → Bool
 has_no_level rule = is_empty (text_at (codes "isolation_level") rule)
 
