@@ -26,7 +26,7 @@ nothing_printed Replay held = nothing_printed_by held
 nothing_printed (Tso timestamp) held = tt
 
 safely : (Writes : List ℕ → Type 0) (script : Script) → SafeScript (Ok script) → Writes (answers_text (answers_of script)) → PrintsSafely Writes
-safely Writes script safe written = record { windows = (state_after (start script) script.lines).windows; answers = answers_of script; printed = written; safe = safe.answers }
+safely Writes script safe written = record { windows = (state_after (start script) script.lines).oracle.windows; answers = answers_of script; printed = written; safe = safe.answers }
 
 -- where the text is a script
 of_lines : (script : Script) → SafeScript (Ok script) → (status : Status) (old new : Option (List ℕ)) → Leaves (script_outcome (Ok script)) status old new → GrantsNoneTwice status old new

@@ -1,6 +1,6 @@
 -- The answers to any lawful script are a safe history.
-use Rattle.std.proofs.Common.{cond, ltb, nat_eq, ◌⊎◌, inl, inr, ⊎_elim, ◌<◌, ◌≤◌, ◌≡◌, ℕ, zero, suc, ◌+◌, ◌^◌, List, [], ◌∷◌, ◌++◌, drop, Bool, true, false, length, map, refl, sym, ap, ◌∙◌, subst, arith, append_assoc}
-use Rattle.std.specs.Prelude.{All, AllPairs, Contains, slice_index_or}
+use Rattle.std.proofs.Common.{cond, ltb, nat_eq, ◌⊎◌, inl, inr, ⊎_elim, ◌<◌, ◌≤◌, ◌≡◌, ℕ, zero, suc, ◌^◌, List, [], ◌∷◌, ◌++◌, Bool, true, false, length, map, refl, sym, ap, ◌∙◌, subst, arith, append_assoc}
+use Rattle.std.specs.Prelude.{All, AllPairs, Contains, Option, slice_index_or}
 use Rattle.std.specs.List.{AllByRecursion}
 use Rattle.std.proofs.lemmas.Bool.Decides.{nat_tests}
 use Rattle.std.proofs.lemmas.List.Elements.{All-from_recursion, recursion_from_All}
@@ -23,18 +23,19 @@ use Rattle.tso_core.specs.Whole.{Whole}
 use Rattle.tso_core.specs.declared.reply.Reply.{Reply}
 use Rattle.tso_core.specs.declared.reply.Reply.TheVariants.{Won, Beaten, Lost, TermsSpent, ClockRange, Moved, Idle, NotLeading, Resigned, Got, Again, NotLeader, Stale, Told, Heard, Nothing, OutOfTurn, CellRead, Claimed, Saved, Raised, Probed, Published, Looked, Armed}
 use Rattle.tso_core.specs.declared.reply.Kind.TheVariants.{Read as ToRead, Campaign as ToCampaign, Save as ToSave, Raise as ToRaise, Publish as ToPublish, Probe as ToProbe, Look as ToLook, Arm as ToArm, Draw as ToDraw}
+use Rattle.pd_types.specs.declared.oracle.Actor.{Actor}
 use Rattle.pd_types.specs.declared.oracle.Actor.TheVariants.{Driver, Client}
 use Rattle.tso_core.proofs.Granted.{ledger, bounded}
 use Rattle.tso_core.proofs.Telling.{each_call_tells, is_new}
 use Rattle.pd_script.specs.Lawful.{AreLawful, IsLawful, IsLawfulScript, IsOneOf}
 use Rattle.pd_script.specs.declared.act.Act.{Act}
-use Rattle.pd_script.specs.declared.act.Act.TheVariants.{Cell, Lead, Tick, Resign, Take, Tell, Hear, Read, Campaign, Save, Raise, Publish, Probe, Look, Arm, Draw}
+use Rattle.pd_script.specs.declared.act.Act.TheVariants.{Cell, Lead, Tick, Resign, Take, Tell, Hear, Read, Campaign, Save, Raise, Publish, Probe, Look, Arm, Draw, Ask}
 use Rattle.pd_script.specs.declared.act.Line.{Line}
 use Rattle.pd_script.specs.declared.script.Mode.{Mode}
 use Rattle.pd_script.specs.declared.script.Script.{Script}
-use Rattle.pd_cluster.specs.History.{AreApart, AreFair, LiesInOne, StaysBounded, and_batch, batches_of, caller_of, seens_after}
+use Rattle.pd_cluster.specs.History.{AreApart, AreFair, LiesInOne, StaysBounded, and_batch, batches_of, caller_of, seens_after, oracle_reply}
 use Rattle.pd_cluster.specs.Outcome.{IsSafeRun}
-use Rattle.pd_cluster.specs.Replay.{act_step, answer_text, answers_from, answers_of, answers_text, named_cell, opening_cell, setup_of, start, state_after}
+use Rattle.pd_cluster.specs.Replay.{State, act_step, answer_text, answers_from, answers_of, answers_text, driver_of, line_step, named_cell, opening_cell, setup_of, start, state_after}
 
 -- the ranges of a script are the oracle's
 pub has_driver : (k : Setup) (d : ℕ) → IsOneOf k.drivers d → HasDriver k d
@@ -64,6 +65,7 @@ act_tells w s (Probe driver now) asked = (each_call_tells w s).step (Driver driv
 act_tells w s (Look client driver) asked = (each_call_tells w s).step (Client client) (ToLook driver) (has_client w.setup client asked.0) (has_driver w.setup driver asked.1)
 act_tells w s (Arm client n) asked = (each_call_tells w s).step (Client client) (ToArm n) (has_client w.setup client asked.0) (is_count n asked.1)
 act_tells w s (Draw client) asked = (each_call_tells w s).step (Client client) ToDraw (has_client w.setup client asked) tt
+act_tells w s (Ask driver request) asked = record { sound = s; setup = refl; batches = refl; fair = λ seen is. tt; own = λ has. refl; others = λ e has apart. refl }
 
 -- an answer grants a batch, or nothing
 record IsDull (r : Reply) : Type 0 where
@@ -220,12 +222,35 @@ prints_one u s r old final printed adds p = ⊎_elim
     (λ got. subst (λ (x : Reply). Prints old final (and_batch x printed)) (sym got.1) (prints_got u s old final printed got.0 (subst (λ (x : Reply). Adds x old u.batches) got.1 adds) p))
     (λ dull. prints_dull r old u.batches final printed dull adds p) (grants_or r)
 
+-- what a line answers of the oracle, and the oracle after it
+abbrev oracle_turn : State → Line → Stepped
+oracle_turn state line = record { reply = oracle_reply (line_step state line).said; after = (line_step state line).after.oracle }
+
+same_turn : (state : State) (number : ℕ) (actor : Option Actor) (act : Act) → oracle_turn state (record { number = number; actor = actor; act = act }) ≡ act_step state.oracle act
+same_turn state number actor (Cell saved term) = refl
+same_turn state number actor (Lead driver now) = refl
+same_turn state number actor (Tick driver now) = refl
+same_turn state number actor (Resign driver) = refl
+same_turn state number actor (Take client driver n) = refl
+same_turn state number actor (Tell client to) = refl
+same_turn state number actor (Hear client) = refl
+same_turn state number actor (Read driver now) = refl
+same_turn state number actor (Campaign driver) = refl
+same_turn state number actor (Save driver) = refl
+same_turn state number actor (Raise driver) = refl
+same_turn state number actor (Publish driver) = refl
+same_turn state number actor (Probe driver now) = refl
+same_turn state number actor (Look client driver) = refl
+same_turn state number actor (Arm client n) = refl
+same_turn state number actor (Draw client) = refl
+same_turn state number actor (Ask driver request) = refl
+
 -- a whole run from a state
-record Runs (w : Whole) (seens : ℕ → Seen) (lines : List Line) : Type 0 where
-  sound : IsSound (state_after w lines)
-  fair : AreFair seens (answers_from w lines)
-  prints : Prints w.batches (state_after w lines).batches (batches_of (answers_from w lines))
-  cursors : StaysBounded w lines
+record Runs (state : State) (seens : ℕ → Seen) (lines : List Line) : Type 0 where
+  sound : IsSound (state_after state lines).oracle
+  fair : AreFair seens (answers_from state lines)
+  prints : Prints state.oracle.batches (state_after state lines).oracle.batches (batches_of (answers_from state lines))
+  cursors : StaysBounded state lines
 
 -- what the clients have seen is what the answers said
 abbrev Know : Whole → (ℕ → Seen) → Type 0
@@ -247,20 +272,21 @@ seens_cond w r c e seens tells know has = cases (nat_eq c e) refl
 abbrev AreAsked : Setup → List Line → Type 0
 AreAsked k lines = AllByRecursion (λ line. IsLawful k.drivers k.clients line.act) lines
 
-runs : (lines : List Line) (w : Whole) (seens : ℕ → Seen) → IsSound w → Know w seens → AreAsked w.setup lines → Runs w seens lines
-runs [] w seens s know asked = record { sound = s; fair = tt; prints = prints_nothing w.batches; cursors = bounded w s }
-runs (line ∷ lines) w seens s know asked =
+runs : (lines : List Line) (state : State) (seens : ℕ → Seen) → IsSound state.oracle → Know state.oracle seens → AreAsked state.oracle.setup lines → Runs state seens lines
+runs [] state seens s know asked = record { sound = s; fair = tt; prints = prints_nothing state.oracle.batches; cursors = bounded state.oracle s }
+runs (line ∷ lines) state seens s know asked =
     let c : ℕ = caller_of line.act in
-    let r : Stepped = act_step w line.act in
-    let tells : Tells w c r = act_tells w s line.act asked.0 in
-    let rest = runs lines r.after (seens_after seens c r.reply) tells.sound
-    (λ e has. seens_cond w r c e seens tells know (subst (λ (k : Setup). HasClient k e) tells.setup has))
+    let r : Stepped = oracle_turn state line in
+    let next : State = (line_step state line).after in
+    let tells : Tells state.oracle c r = subst (λ (t : Stepped). Tells state.oracle c t) (sym (same_turn state line.number line.actor line.act)) (act_tells state.oracle s line.act asked.0) in
+    let rest = runs lines next (seens_after seens c r.reply) tells.sound
+    (λ e has. seens_cond state.oracle r c e seens tells know (subst (λ (k : Setup). HasClient k e) tells.setup has))
     (subst (λ (k : Setup). AreAsked k lines) (sym tells.setup) asked.1) in
     record {
       sound = rest.sound;
       fair = (tells.fair (seens c) (know c), rest.fair);
-      prints = prints_one r.after tells.sound r.reply w.batches (state_after r.after lines).batches (batches_of (answers_from r.after lines)) tells.batches rest.prints;
-      cursors = (bounded w s, rest.cursors);
+      prints = prints_one next.oracle tells.sound r.reply state.oracle.batches (state_after next lines).oracle.batches (batches_of (answers_from next lines)) tells.batches rest.prints;
+      cursors = (bounded state.oracle s, rest.cursors);
     }
 
 -- the opening cell of a lawful script
@@ -281,6 +307,7 @@ act_cell drivers clients (Probe driver now) asked = (omega arith, omega arith)
 act_cell drivers clients (Look client driver) asked = (omega arith, omega arith)
 act_cell drivers clients (Arm client n) asked = (omega arith, omega arith)
 act_cell drivers clients (Draw client) asked = (omega arith, omega arith)
+act_cell drivers clients (Ask driver request) asked = (omega arith, omega arith)
 
 lines_cell : (mode : Mode) (drivers clients : ℕ) (first : Bool) (lines : List Line) → AreLawful mode drivers clients first lines → ((opening_cell lines).saved < 2 ^ 45) × ((opening_cell lines).term < 262144)
 lines_cell mode drivers clients first [] asked = (omega arith, omega arith)
@@ -304,7 +331,7 @@ pub history : (mode : Mode) (script : Script) → IsLawfulScript mode script →
 history mode script lawful =
     let new = is_new (setup_of script) (is_setup mode script lawful) in
     let run = runs script.lines (start script) (λ _. nothing_seen) new.sound new.unseen (each_asked mode script.drivers script.clients true script.lines lawful.lines) in
-    let last : Whole = state_after (start script) script.lines in
+    let last : Whole = (state_after (start script) script.lines).oracle in
     let l = ledger last run.sound in
     record {
       answers = record {
@@ -316,20 +343,31 @@ history mode script lawful =
       cursors = run.cursors;
     }
 
--- the answers from a line on are its answer and those behind it
-answer_more : (w : Whole) (lines : List Line) (i : ℕ) (d : Line) → i < length lines → answers_text (answers_from w (drop i lines))
-    ≡ answer_text (record { line = slice_index_or lines i d; reply = (act_step w (slice_index_or lines i d).act).reply }) ++ answers_text (answers_from (act_step w (slice_index_or lines i d).act).after (drop (suc i) lines))
-answer_more w [] i d within = absurd (omega (arith, within))
-answer_more w (line ∷ lines) zero d within = refl
-answer_more w (line ∷ lines) (suc i) d within = answer_more w lines i d (omega (arith, within))
+-- one more answer in the text
+pub text_more : (state next : State) (line : Line) (lines : List Line) (old new all : List ℕ) → next ≡ (line_step state line).after → new ≡ old ++ answer_text (record { line = line; said = (line_step state line).said })
+    → old ++ answers_text (answers_from state (line ∷ lines)) ≡ all → new ++ answers_text (answers_from next lines) ≡ all
+text_more state next line lines old new all after text before =
+    let one : List ℕ = answer_text (record { line = line; said = (line_step state line).said }) in
+    ap (λ (s : List ℕ). s ++ answers_text (answers_from next lines)) text
+    ∙ append_assoc old one (answers_text (answers_from next lines))
+    ∙ ap (λ (v : State). old ++ (one ++ answers_text (answers_from v lines))) after ∙ before
 
-pub text_more : (w u : Whole) (lines : List Line) (i : ℕ) (d : Line) (old new all : List ℕ) → i < length lines → u ≡ (act_step w (slice_index_or lines i d).act).after
-    → new ≡ old ++ answer_text (record { line = slice_index_or lines i d; reply = (act_step w (slice_index_or lines i d).act).reply })
-    → old ++ answers_text (answers_from w (drop i lines)) ≡ all → new ++ answers_text (answers_from u (drop (i + 1) lines)) ≡ all
-text_more w u lines i d old new all within after text before =
-    let next : suc i ≡ i + 1 = omega arith in
-    ap (λ (s : List ℕ). s ++ answers_text (answers_from u (drop (i + 1) lines))) text
-    ∙ append_assoc old (answer_text (record { line = slice_index_or lines i d; reply = (act_step w (slice_index_or lines i d).act).reply })) (answers_text (answers_from u (drop (i + 1) lines)))
-    ∙ ap (λ (s : List ℕ). old ++ s) (ap (λ (v : Whole). answer_text (record { line = slice_index_or lines i d; reply = (act_step w (slice_index_or lines i d).act).reply }) ++ answers_text (answers_from v (drop (i + 1) lines))) after
-    ∙ ap (λ (n : ℕ). answer_text (record { line = slice_index_or lines i d; reply = (act_step w (slice_index_or lines i d).act).reply }) ++ answers_text (answers_from (act_step w (slice_index_or lines i d).act).after (drop n lines))) (sym next)
-    ∙ sym (answer_more w lines i d within)) ∙ before
+-- the driver that acts in a line is one of the oracle's, or 0
+pub driver_low : (drivers clients : ℕ) (act : Act) → IsLawful drivers clients act → driver_of act ≤ drivers
+driver_low drivers clients (Cell saved term) asked = omega arith
+driver_low drivers clients (Lead driver now) asked = asked.0.low
+driver_low drivers clients (Tick driver now) asked = asked.0.low
+driver_low drivers clients (Resign driver) asked = asked.low
+driver_low drivers clients (Take client driver n) asked = omega arith
+driver_low drivers clients (Tell client to) asked = omega arith
+driver_low drivers clients (Hear client) asked = omega arith
+driver_low drivers clients (Read driver now) asked = asked.0.low
+driver_low drivers clients (Campaign driver) asked = asked.low
+driver_low drivers clients (Save driver) asked = asked.low
+driver_low drivers clients (Raise driver) asked = asked.low
+driver_low drivers clients (Publish driver) asked = asked.low
+driver_low drivers clients (Probe driver now) asked = asked.0.low
+driver_low drivers clients (Look client driver) asked = omega arith
+driver_low drivers clients (Arm client n) asked = omega arith
+driver_low drivers clients (Draw client) asked = omega arith
+driver_low drivers clients (Ask driver request) asked = omega arith

@@ -6,17 +6,23 @@ use Rattle.pd_types.specs.declared.oracle.Seen.{Seen}
 use Rattle.pd_types.specs.declared.oracle.Window.{Window}
 use Rattle.pd_types.specs.Batch.{first_of}
 use Rattle.pd_script.specs.declared.act.Act.{Act}
-use Rattle.pd_script.specs.declared.act.Act.TheVariants.{Cell, Lead, Tick, Resign, Take, Tell, Hear, Read, Campaign, Save, Raise, Publish, Probe, Look, Arm, Draw}
+use Rattle.pd_script.specs.declared.act.Act.TheVariants.{Cell, Lead, Tick, Resign, Take, Tell, Hear, Read, Campaign, Save, Raise, Publish, Probe, Look, Arm, Draw, Ask}
 use Rattle.pd_script.specs.declared.act.Line.{Line}
 use Rattle.tso_model.specs.declared.entries.Claim.{Claim}
 use Rattle.tso_model.specs.Words.{Inside, opening_claim}
 use Rattle.tso_model.specs.Ledger.{IsWindowList}
 use Rattle.tso_model.specs.Moves.{nothing_seen}
 use Rattle.tso_core.specs.Laws.{AreBounded, IsFair, learned}
-use Rattle.tso_core.specs.Whole.{Whole}
 use Rattle.tso_core.specs.declared.reply.Reply.{Reply}
-use Rattle.tso_core.specs.declared.reply.Reply.TheVariants.{Got}
-use Rattle.pd_cluster.specs.Replay.{Answer, act_step}
+use Rattle.tso_core.specs.declared.reply.Reply.TheVariants.{Got, Nothing}
+use Rattle.pd_cluster.specs.declared.said.Said.{Said}
+use Rattle.pd_cluster.specs.declared.said.Said.TheVariants.{ByOracle, ByCluster}
+use Rattle.pd_cluster.specs.Replay.{Answer, State, line_step}
+
+-- what the oracle answered; a cluster's answer says nothing of it
+abbrev pub oracle_reply : Said → Reply
+oracle_reply (ByOracle reply) = reply
+oracle_reply (ByCluster reply) = Nothing
 
 -- the batch of an answer, in front of others
 abbrev pub and_batch : Reply → List Batch → List Batch
@@ -26,7 +32,7 @@ and_batch _ batches = batches
 -- the batches that were printed, in the order of their lines
 abbrev pub batches_of : List Answer → List Batch
 batches_of [] = []
-batches_of (answer ∷ answers) = and_batch answer.reply (batches_of answers)
+batches_of (answer ∷ answers) = and_batch (oracle_reply answer.said) (batches_of answers)
 
 -- one batch lies below the other: its term isn't later, and its last timestamp is below the other's first
 pub record IsBelow (a b : Batch) : Type 0 where
@@ -50,7 +56,7 @@ pub record LiesInOne (windows : List Window) (batch : Batch) : Type 0 where
   pub one : Contains windows window
   pub inside : Inside window batch
 
--- the client of a line; a driver's line has none, which is 0
+-- the client of a line; a driver's or a store's line has none, which is 0
 abbrev pub caller_of : Act → ℕ
 caller_of (Cell saved term) = 0
 caller_of (Lead driver now) = 0
@@ -68,6 +74,7 @@ caller_of (Probe driver now) = 0
 caller_of (Look client driver) = client
 caller_of (Arm client n) = client
 caller_of (Draw client) = client
+caller_of (Ask driver request) = 0
 
 -- what each client has seen after an answer to this one: the pair of its batch, or the greater of its own and a note's
 abbrev pub seens_after : (ℕ → Seen) → ℕ → Reply → ℕ → Seen
@@ -76,7 +83,7 @@ seens_after seens caller reply client = if nat_eq caller client then learned rep
 -- each batch is above all that its caller had seen before it, and each `again` passed the end of its window or of the logical part
 abbrev pub AreFair : (ℕ → Seen) → List Answer → Type 0
 AreFair seens [] = Unit {0}
-AreFair seens (answer ∷ answers) = IsFair answer.reply (seens (caller_of answer.line.act)) × AreFair (seens_after seens (caller_of answer.line.act) answer.reply) answers
+AreFair seens (answer ∷ answers) = IsFair (oracle_reply answer.said) (seens (caller_of answer.line.act)) × AreFair (seens_after seens (caller_of answer.line.act) (oracle_reply answer.said)) answers
 
 -- The batches are disjoint and rise by term and timestamp, each inside a window of its own term; each caller's batches exceed
 -- all it had seen, notes included; each `again` passed. All of this holds of the first answers too, wherever a fault cut the text.
@@ -87,6 +94,6 @@ pub record IsSafe (windows : List Window) (answers : List Answer) : Type 0 where
   pub fair : AreFair (λ _. nothing_seen) answers
 
 -- Before and after each line, each cursor stands at most 64 milliseconds past the saved end, however many draws were refused
-abbrev pub StaysBounded : Whole → List Line → Type 0
-StaysBounded w [] = AreBounded w
-StaysBounded w (line ∷ lines) = AreBounded w × StaysBounded (act_step w line.act).after lines
+abbrev pub StaysBounded : State → List Line → Type 0
+StaysBounded state [] = AreBounded state.oracle
+StaysBounded state (line ∷ lines) = AreBounded state.oracle × StaysBounded (line_step state line).after lines

@@ -8,7 +8,7 @@ use Rattle.pd_types.specs.declared.oracle.Window.{Window}
 use Rattle.pd_script.specs.Numbering.{reason_number}
 use Rattle.pd_script.specs.Scripts.{script_of}
 use Rattle.pd_script.specs.declared.refusal.Limited.{Limited}
-use Rattle.pd_script.specs.declared.refusal.Limited.TheVariants.{Events, Drivers, Clients}
+use Rattle.pd_script.specs.declared.refusal.Limited.TheVariants.{Events, Drivers, Clients, Stores}
 use Rattle.pd_script.specs.declared.refusal.ScriptRefusal.{ScriptRefusal}
 use Rattle.pd_script.specs.declared.refusal.ScriptRefusal.TheVariants.{Fault, Limit as PastLimit, NoMemory as NoRoom}
 use Rattle.pd_script.specs.declared.script.Mode.TheVariants.{Replay as ByLine}
@@ -42,6 +42,7 @@ abbrev pub limited_text : Limited → List ℕ
 limited_text Events = codes "events"
 limited_text Drivers = codes "drivers"
 limited_text Clients = codes "clients"
+limited_text Stores = codes "stores"
 
 -- the answer to a text that is no script; want of memory is never the text's own
 abbrev pub refusal_outcome : ScriptRefusal → Outcome
@@ -65,7 +66,7 @@ IsOutcome (Tso timestamp) text outcome = outcome ≡ tso_outcome timestamp
 
 -- the answers to a script are a safe history, and its cursors stay bounded
 pub record IsSafeRun (script : Script) : Type 0 where
-  pub answers : IsSafe (state_after (start script) script.lines).windows (answers_of script)
+  pub answers : IsSafe (state_after (start script) script.lines).oracle.windows (answers_of script)
   pub cursors : StaysBounded (start script) script.lines
 
 -- the oracle's part of the outcome is safe, where there is a script

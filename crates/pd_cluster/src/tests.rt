@@ -37,108 +37,149 @@ fn expect(
     Ok(())
 }
 
-// Worked rows. In each line an act stands in front of its answer.
-const ROWS: [&str; 16] = [
+// Worked rows. In each line an act stands in front of `>` and its answer.
+const ROWS: [&str; 20] = [
     "\
-lead 1 1000 = won term 1 lo 1000 hi 4000
-take 1 1 3 = got term 1 driver 1 first 262144001 last 262144003
-tick 1 900 = idle
-tick 2 900 = not-leading
-resign 1 = resigned
-resign 1 = not-leading",
+lead 1 1000 > won term 1 lo 1000 hi 4000
+take 1 1 3 > got term 1 driver 1 first 262144001 last 262144003
+tick 1 900 > idle
+tick 2 900 > not-leading
+resign 1 > resigned
+resign 1 > not-leading",
     "\
-lead 1 0 = won term 1 lo 1 hi 3001
-take 1 1 1 = got term 1 driver 1 first 262145 last 262145",
+lead 1 0 > won term 1 lo 1 hi 3001
+take 1 1 1 > got term 1 driver 1 first 262145 last 262145",
     "\
-lead 1 1000 = won term 1 lo 1000 hi 4000
-take 1 1 262143 = got term 1 driver 1 first 262144001 last 262406143
-take 1 1 1 = again at 262406143 hi 4000 count 1
-tick 1 1000 = moved next 1001 hi 4000
-take 1 1 1 = got term 1 driver 1 first 262406145 last 262406145",
+lead 1 1000 > won term 1 lo 1000 hi 4000
+take 1 1 262143 > got term 1 driver 1 first 262144001 last 262406143
+take 1 1 1 > again at 262406143 hi 4000 count 1
+tick 1 1000 > moved next 1001 hi 4000
+take 1 1 1 > got term 1 driver 1 first 262406145 last 262406145",
     "\
-lead 1 1000 = won term 1 lo 1000 hi 4000
-tick 1 3999 = moved next 3999 hi 6999",
+lead 1 1000 > won term 1 lo 1000 hi 4000
+tick 1 3999 > moved next 3999 hi 6999",
     "\
-lead 1 1000 = won term 1 lo 1000 hi 4000
-tick 1 3998 = moved next 3998 hi 4000",
+lead 1 1000 > won term 1 lo 1000 hi 4000
+tick 1 3998 > moved next 3998 hi 4000",
     "\
-lead 1 1000 = won term 1 lo 1000 hi 4000
-take 1 1 3 = got term 1 driver 1 first 262144001 last 262144003
-lead 2 500 = won term 2 lo 4001 hi 7001
-take 2 2 1 = got term 2 driver 2 first 1048838145 last 1048838145
-take 1 1 2 = got term 1 driver 1 first 262144004 last 262144005
-hear 1 = nothing
-tell 2 1 = told
-hear 1 = heard term 2 last 1048838145
-take 1 1 1 = stale seen 2
-tick 1 3999 = lost saved 7001 term 2
-take 2 1 1 = not-leader",
+lead 1 1000 > won term 1 lo 1000 hi 4000
+take 1 1 3 > got term 1 driver 1 first 262144001 last 262144003
+lead 2 500 > won term 2 lo 4001 hi 7001
+take 2 2 1 > got term 2 driver 2 first 1048838145 last 1048838145
+take 1 1 2 > got term 1 driver 1 first 262144004 last 262144005
+hear 1 > nothing
+tell 2 1 > told
+hear 1 > heard term 2 last 1048838145
+take 1 1 1 > stale seen 2
+tick 1 3999 > lost saved 7001 term 2
+take 2 1 1 > not-leader",
     "\
-read 1 1000 = cell saved 0 term 0
-read 2 2000 = cell saved 0 term 0
-campaign 2 = claimed term 1
-campaign 1 = beaten saved 0 term 1
-read 1 1000 = cell saved 0 term 1
-campaign 1 = claimed term 2
-save 2 = lost saved 0 term 2
-publish 2 = published 0
-save 1 = saved hi 4000
-raise 1 = raised cursor 262144000
-publish 1 = published hi 4000
-raise 1 = out-of-turn expected rest",
+read 1 1000 > cell saved 0 term 0
+read 2 2000 > cell saved 0 term 0
+campaign 2 > claimed term 1
+campaign 1 > beaten saved 0 term 1
+read 1 1000 > cell saved 0 term 1
+campaign 1 > claimed term 2
+save 2 > lost saved 0 term 2
+publish 2 > published 0
+save 1 > saved hi 4000
+raise 1 > raised cursor 262144000
+publish 1 > published hi 4000
+raise 1 > out-of-turn expected rest",
     "\
-lead 1 1000 = won term 1 lo 1000 hi 4000
-take 1 1 262000 = got term 1 driver 1 first 262144001 last 262406000
-look 1 1 = looked term 1 hi 4000
-arm 1 100 = armed at 262406000
-look 2 1 = looked term 1 hi 4000
-arm 2 100 = armed at 262406000
-draw 1 = got term 1 driver 1 first 262406001 last 262406100
-draw 2 = again at 262406100 hi 4000 count 100
-take 2 1 1 = got term 1 driver 1 first 262406201 last 262406201",
+lead 1 1000 > won term 1 lo 1000 hi 4000
+take 1 1 262000 > got term 1 driver 1 first 262144001 last 262406000
+look 1 1 > looked term 1 hi 4000
+arm 1 100 > armed at 262406000
+look 2 1 > looked term 1 hi 4000
+arm 2 100 > armed at 262406000
+draw 1 > got term 1 driver 1 first 262406001 last 262406100
+draw 2 > again at 262406100 hi 4000 count 100
+take 2 1 1 > got term 1 driver 1 first 262406201 last 262406201",
     "\
-lead 1 1000 = won term 1 lo 1000 hi 4000
-look 1 1 = looked term 1 hi 4000
-arm 1 5 = armed at 262144000
-lead 2 1500 = won term 2 lo 4001 hi 7001
-lead 1 1600 = won term 3 lo 7002 hi 10002
-draw 1 = again at 1835532288 hi 4000 count 5
-take 1 1 1 = got term 3 driver 1 first 1835532294 last 1835532294",
+lead 1 1000 > won term 1 lo 1000 hi 4000
+look 1 1 > looked term 1 hi 4000
+arm 1 5 > armed at 262144000
+lead 2 1500 > won term 2 lo 4001 hi 7001
+lead 1 1600 > won term 3 lo 7002 hi 10002
+draw 1 > again at 1835532288 hi 4000 count 5
+take 1 1 1 > got term 3 driver 1 first 1835532294 last 1835532294",
     "\
-cell 5 262142 = cell saved 5 term 262142
-lead 1 0 = won term 262143 lo 6 hi 3006
-lead 1 0 = terms-spent",
+cell 5 262142 > cell saved 5 term 262142
+lead 1 0 > won term 262143 lo 6 hi 3006
+lead 1 0 > terms-spent",
     "\
-lead 1 35184372085832 = clock-range
-lead 1 35184372085831 = won term 1 lo 35184372085831 hi 35184372088831
-take 1 1 1 = got term 1 driver 1 first 9223372036068081665 last 9223372036068081665",
+lead 1 35184372085832 > clock-range
+lead 1 35184372085831 > won term 1 lo 35184372085831 hi 35184372088831
+take 1 1 1 > got term 1 driver 1 first 9223372036068081665 last 9223372036068081665",
     "\
-probe 1 900 = not-leading
-lead 1 1000 = won term 1 lo 1000 hi 4000
-probe 1 2000 = probed cursor 262144000
-tick 1 2000 = out-of-turn expected raise
-raise 1 = raised cursor 524288000",
+probe 1 900 > not-leading
+lead 1 1000 > won term 1 lo 1000 hi 4000
+probe 1 2000 > probed cursor 262144000
+tick 1 2000 > out-of-turn expected raise
+raise 1 > raised cursor 524288000",
     "\
-lead 1 1000 = won term 1 lo 1000 hi 4000
-look 1 1 = looked term 1 hi 4000
-draw 1 = out-of-turn expected arm
-take 1 1 1 = out-of-turn expected arm
-tell 1 1 = out-of-turn expected arm
-arm 1 2 = armed at 262144000
-hear 1 = out-of-turn expected draw
-draw 1 = got term 1 driver 1 first 262144001 last 262144002",
+lead 1 1000 > won term 1 lo 1000 hi 4000
+look 1 1 > looked term 1 hi 4000
+draw 1 > out-of-turn expected arm
+take 1 1 1 > out-of-turn expected arm
+tell 1 1 > out-of-turn expected arm
+arm 1 2 > armed at 262144000
+hear 1 > out-of-turn expected draw
+draw 1 > got term 1 driver 1 first 262144001 last 262144002",
     "\
-read 1 1000 = cell saved 0 term 0
-lead 1 1000 = out-of-turn expected campaign
-campaign 1 = claimed term 1
-resign 1 = out-of-turn expected save
-save 1 = saved hi 4000
-publish 1 = out-of-turn expected raise
-raise 1 = raised cursor 262144000
-raise 1 = out-of-turn expected publish",
+read 1 1000 > cell saved 0 term 0
+lead 1 1000 > out-of-turn expected campaign
+campaign 1 > claimed term 1
+resign 1 > out-of-turn expected save
+save 1 > saved hi 4000
+publish 1 > out-of-turn expected raise
+raise 1 > raised cursor 262144000
+raise 1 > out-of-turn expected publish",
     "\
-lead 7 70368744177663 = clock-range
-take 64 7 262143 = not-leader",
+lead 7 70368744177663 > clock-range
+take 64 7 262143 > not-leader",
+    "\
+lead 1 1000 > won term 1 lo 1000 hi 4000
+beat 1 1 1000 7 - 40 1 6 11 11:1:v > accepted removed 0 none
+beat 1 1 1001 8 20 60 1 5 21 21:1:v > stale conf 1 version 6
+beat 1 1 1002 9 40 - 1 6 31 31:1:v > accepted removed 0 none
+beat 1 1 1003 10 - - 1 7 41 41:1:v > accepted removed 2 none
+beat 1 1 1004 11 - - 1 8 51 52:1:v > bad 5",
+    "\
+lead 1 1000 > won term 1 lo 1000 hi 4000
+hello 1 1 1000 a1 > store put
+hello 2 1 1000 a2 > store put
+hello 3 1 1000 a3 > store put
+beat 1 1 1000 7 - - 1 1 11 11:1:v,12:2:v,13:3:v > accepted removed 0 none
+alive 1 1 21001 > alive
+alive 4 1 21001 > unknown-store
+alive 1 2 21001 > not-leading
+hello 1 2 21001 a1 zone=z1 > not-leading",
+    "\
+read 1 1000 > cell saved 0 term 0
+campaign 1 > claimed term 1
+save 1 > saved hi 4000
+raise 1 > raised cursor 262144000
+alive 1 1 1000 > not-leading
+publish 1 > published hi 4000
+hello 1 1 900 a1 > store put
+probe 1 3999 > probed cursor 262144000
+save 1 > saved hi 6999
+raise 1 > raised cursor 1048313856
+publish 1 > published hi 6999
+alive 1 1 1000 > alive
+resign 1 > resigned
+alive 1 1 1000 > not-leading
+lead 1 1000 > won term 2 lo 7000 hi 10000
+alive 1 1 1000 > unknown-store",
+    "\
+lead 1 1000 > won term 1 lo 1000 hi 4000
+lead 2 1000 > won term 2 lo 4001 hi 7001
+hello 1 1 1000 a1 > store put
+tick 1 3999 > lost saved 7001 term 2
+alive 1 1 1000 > not-leading
+alive 1 2 1000 > unknown-store",
     "",
 ];
 
@@ -146,7 +187,7 @@ take 64 7 262143 = not-leader",
 fn script_of(alloc: Global, row: &str) -> Result<String, Fail> {
     let mut script = String::new(alloc);
     for line in row.lines() {
-        let Some((act, _)) = line.split_once('=') else {
+        let Some((act, _)) = line.split_once('>') else {
             return Err(Fail::new("a line without an answer"));
         };
         writeln!(script, "{act}")?;
@@ -159,7 +200,7 @@ fn answers_of(alloc: Global, row: &str) -> Result<String, Fail> {
     let mut answers = String::new(alloc);
     let mut number = 1u64;
     for line in row.lines() {
-        let Some((_, answer)) = line.split_once('=') else {
+        let Some((_, answer)) = line.split_once('>') else {
             return Err(Fail::new("a line without an answer"));
         };
         writeln!(answers, "{number}{answer}")?;

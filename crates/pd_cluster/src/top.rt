@@ -87,6 +87,7 @@ fn limited_word(what: Limited) -> &'static str
         Limited::Events => "events",
         Limited::Drivers => "drivers",
         Limited::Clients => "clients",
+        Limited::Stores => "stores",
     }
 }
 
@@ -110,7 +111,7 @@ fn script_response(alloc: Global, text: &[u8]) -> Result<Response, NoMemory>
 {
     match read_script(alloc, text, Mode::Replay) {
         Ok(script) => {
-            let text = replay_script(alloc, &script)?;
+            let text = replay_script(alloc, script)?;
             Ok(Response {
                 status: Status::Done,
                 text,

@@ -1,23 +1,34 @@
 -- The script of a text is lawful.
-use Rattle.std.proofs.Common.{◌≡◌, ◌<◌, ◌≤◌, ℕ, ◌+◌, List, [], ◌∷◌, Bool, true, false, cond, map, max, get_or, nat_le, Option, Some, None, refl, sym, ap, subst, ◌∙◌, arith}
+use Rattle.std.proofs.Common.{◌≡◌, ◌<◌, ◌≤◌, ℕ, ◌+◌, List, [], ◌∷◌, Bool, true, false, cond, map, get_or, nat_le, nat_lt, length, Option, Some, None, refl, sym, ap, subst, ◌∙◌, arith}
 use Rattle.std.specs.Prelude.{Result, Ok, Err, ◌&&◌}
 use Rattle.std.proofs.lemmas.Bool.Decides.{nat_tests}
 use Rattle.pd_lines.specs.Numeral.{number_of}
-use Rattle.pd_script.specs.Grammar.{AtFault, and_event, and_line, and_number, arity, by_verb, content_of, event_of, events_from, events_of, has_bad_byte, is_passed_over, listed, numbers_of, padded, raw_content, read_places, some_event, unless, with_numbers}
-use Rattle.pd_script.specs.Lawful.{AreLawful, IsCount, IsLawful, IsLawfulScript, IsOneOf, standing_of}
+use Rattle.pd_types.specs.declared.region.RegionBeat.{RegionBeat}
+use Rattle.pd_types.specs.declared.request.Request.TheVariants.{Hello, Alive, Beat}
+use Rattle.pd_script.specs.Asks.{alive_of, asked_of, beat_of, greeted, head_of, hello_of, labels_or, region_of, reported, store_verb_of, troubled_of}
+use Rattle.pd_script.specs.Forms.{address_of, and_then}
+use Rattle.pd_script.specs.Grammar.{AtFault, by_store_verb, with_request, and_event, and_line, and_number, arity, by_verb, content_of, event_of, events_from, events_of, has_bad_byte, is_passed_over, listed, numbers_of, padded, raw_content, read_places, some_event, unless, with_numbers}
+use Rattle.pd_script.specs.Lawful.{AreLawful, IsLawful, IsLawfulScript, standing_of}
 use Rattle.pd_script.specs.Places.{least, most, read_place, within}
-use Rattle.pd_script.specs.Scripts.{act_by, broken_by, client_of, driver_of, greatest, line_of, script_by, script_of, unless_broken}
+use Rattle.pd_script.specs.Scripts.{act_by, act_of, broken_by, client_of, driver_of, greatest, line_of, script_by, script_of, unless_broken}
 use Rattle.pd_script.specs.Table.{is_misplaced, row, verb_of}
 use Rattle.pd_script.specs.Words.{RawLine, raw_lines, words}
 use Rattle.pd_script.specs.declared.limits.Broken.{Broken}
 use Rattle.pd_script.specs.declared.place.Place.{Place}
 use Rattle.pd_script.specs.declared.refusal.Reason.{Reason}
 use Rattle.pd_script.specs.declared.refusal.Reason.TheVariants.{BadByte, MissingWord, ExtraWord, BadNumber, OutOfRange, Misplaced, NoNewline, UnknownWord}
-use Rattle.pd_script.specs.declared.refusal.ScriptRefusal.{ScriptRefusal}
 use Rattle.pd_script.specs.declared.refusal.ScriptRefusal.TheVariants.{Fault, Limit}
 use Rattle.pd_script.specs.declared.script.Mode.{Mode}
 use Rattle.pd_script.specs.declared.script.Script.{Script}
+use Rattle.pd_script.specs.declared.act.Act.{Act}
+use Rattle.pd_script.specs.declared.ask.Asked.{Asked}
+use Rattle.pd_script.specs.declared.ask.Head.{Head}
+use Rattle.pd_script.specs.declared.ask.Troubled.{Troubled}
+use Rattle.pd_script.specs.declared.place.Place.TheVariants.{Driver, Id, Moment}
 use Rattle.pd_script.specs.declared.verb.Event.{Event}
+use Rattle.pd_script.specs.declared.verb.Event.TheVariants.{Step, Ask}
+use Rattle.pd_script.specs.declared.verb.StoreVerb.{StoreVerb}
+use Rattle.pd_script.specs.declared.verb.StoreVerb.TheVariants.{Hello as ToHello, Alive as ToAlive, Beat as ToBeat}
 use Rattle.pd_script.specs.declared.verb.Numbered.{Numbered}
 use Rattle.pd_script.specs.declared.verb.Numbers.{Numbers}
 use Rattle.pd_script.specs.declared.verb.Places.{Places}
@@ -104,25 +115,101 @@ numbers_in : (places : Places) (ws : List (List ℕ)) (numbers : Numbers) → nu
 numbers_in places ws numbers is = padded_in places (unless (arity (listed places) ws) (read_places (listed places) ws)) numbers (unless_in places ws (arity (listed places) ws) refl) is
 
 -- an event that was read
-record IsRead (mode : Mode) (first : Bool) (e : Event) : Type 0 where
-  placed : is_misplaced mode first (row e.verb).standing ≡ false
-  range : InRange (row e.verb).places e.numbers
+abbrev IsRead : Mode → Bool → Event → Type 0
+IsRead mode first (Step verb numbers) = (is_misplaced mode first (row verb).standing ≡ false) × InRange (row verb).places numbers
+IsRead mode first (Ask driver request) = 0 < driver
 
 with_read : (mode : Mode) (first : Bool) (verb : Verb) (r : Result Numbers Reason) (e : Event) → is_misplaced mode first (row verb).standing ≡ false → ((n : Numbers) → r ≡ Ok n → InRange (row verb).places n) → with_numbers verb r ≡ Ok e → IsRead mode first e
 with_read mode first verb (Err reason) e placed range is = no_fine reason e is
-with_read mode first verb (Ok n) e placed range is = subst (λ (x : Event). IsRead mode first x) (same_ok (record { verb = verb; numbers = n }) e is) (record { placed = placed; range = range n refl })
+with_read mode first verb (Ok n) e placed range is = subst (λ (x : Event). IsRead mode first x) (same_ok (Step verb n) e is) (placed, range n refl)
 
 placed_read : (mode : Mode) (first : Bool) (ws : List (List ℕ)) (verb : Verb) (e : Event) (bad : Bool) → is_misplaced mode first (row verb).standing ≡ bad → cond {A = Result Event Reason} bad (Err Misplaced) (with_numbers verb (numbers_of (row verb).places ws)) ≡ Ok e → IsRead mode first e
 placed_read mode first ws verb e true placed is = no_fine Misplaced e is
 placed_read mode first ws verb e false placed is = with_read mode first verb (numbers_of (row verb).places ws) e placed (λ n same. numbers_in (row verb).places ws n same) is
 
-verb_read : (mode : Mode) (first : Bool) (ws : List (List ℕ)) (o : Option Verb) (e : Event) → by_verb mode first ws o ≡ Ok e → IsRead mode first e
-verb_read mode first ws None e is = no_fine UnknownWord e is
-verb_read mode first ws (Some verb) e is = placed_read mode first ws verb e (is_misplaced mode first (row verb).standing) refl is
+-- what was read in a row
+then_read : {A B : Type 0} (r : Result A Reason) (next : A → Result B Reason) (b : B) → and_then r next ≡ Ok b → (a : A) × (r ≡ Ok a) × (next a ≡ Ok b)
+then_read (Ok a) next b is = (a, refl, is)
+then_read (Err reason) next b is = no_fine reason b is
+
+-- the driver of a request
+head_pos : (store driver moment : List ℕ) (h : Head) → head_of store driver moment ≡ Ok h → 0 < h.driver
+head_pos store driver moment h is =
+    let s = then_read (read_place Id store) _ h is in
+    let d = then_read (read_place Driver driver) _ h s.2 in
+    let m = then_read (read_place Moment moment) _ h d.2 in
+    let range = in_place Driver (number_of driver) d.0 d.1 in
+    subst (λ (x : Head). 0 < x.driver) (same_ok (record { store = s.0; driver = d.0; moment = m.0 }) h m.2) (omega (arith, range.low))
+
+greeted_pos : (store driver moment address labels : List ℕ) (a : Asked) → greeted (head_of store driver moment) address labels ≡ Ok a → 0 < a.driver
+greeted_pos store driver moment address labels a is =
+    let h = then_read (head_of store driver moment) _ a is in
+    let b = then_read (address_of address) _ a h.2 in
+    let l = then_read (labels_or labels) _ a b.2 in
+    subst (λ (x : Asked). 0 < x.driver) (same_ok (record { driver = h.0.driver; request = Hello h.0.store h.0.moment b.0 l.0 }) a l.2) (head_pos store driver moment h.0 h.1)
+
+hello_pos : (ws : List (List ℕ)) (a : Asked) → hello_of ws ≡ Ok a → 0 < a.driver
+hello_pos [] a is = no_fine MissingWord a is
+hello_pos (s ∷ []) a is = no_fine MissingWord a is
+hello_pos (s ∷ d ∷ []) a is = no_fine MissingWord a is
+hello_pos (s ∷ d ∷ m ∷ []) a is = no_fine MissingWord a is
+hello_pos (s ∷ d ∷ m ∷ x ∷ []) a is = greeted_pos s d m x [] a is
+hello_pos (s ∷ d ∷ m ∷ x ∷ l ∷ []) a is = greeted_pos s d m x l a is
+hello_pos (s ∷ d ∷ m ∷ x ∷ l ∷ more ∷ rest) a is = no_fine ExtraWord a is
+
+alive_pos : (ws : List (List ℕ)) (a : Asked) → alive_of ws ≡ Ok a → 0 < a.driver
+alive_pos [] a is = no_fine MissingWord a is
+alive_pos (s ∷ []) a is = no_fine MissingWord a is
+alive_pos (s ∷ d ∷ []) a is = no_fine MissingWord a is
+alive_pos (s ∷ d ∷ m ∷ []) a is =
+    let h = then_read (head_of s d m) _ a is in
+    subst (λ (x : Asked). 0 < x.driver) (same_ok (record { driver = h.0.driver; request = Alive h.0.store h.0.moment }) a h.2) (head_pos s d m h.0 h.1)
+alive_pos (s ∷ d ∷ m ∷ more ∷ rest) a is = no_fine ExtraWord a is
+
+reported_pos : (store driver moment : List ℕ) (beat : Result RegionBeat Reason) (troubled : Result Troubled Reason) (a : Asked) → reported (head_of store driver moment) beat troubled ≡ Ok a → 0 < a.driver
+reported_pos store driver moment beat troubled a is =
+    let h = then_read (head_of store driver moment) _ a is in
+    let b = then_read beat _ a h.2 in
+    let t = then_read troubled _ a b.2 in
+    subst (λ (x : Asked). 0 < x.driver) (same_ok (record { driver = h.0.driver; request = Beat h.0.store h.0.moment (record b.0 { down = t.0.down; pending = t.0.pending }) }) a t.2) (head_pos store driver moment h.0 h.1)
+
+few_pos : (many : Bool) (store driver moment : List ℕ) (beat : Result RegionBeat Reason) (troubled : Result Troubled Reason) (a : Asked) → cond {A = Result Asked Reason} many (Err ExtraWord) (reported (head_of store driver moment) beat troubled) ≡ Ok a → 0 < a.driver
+few_pos true store driver moment beat troubled a is = no_fine ExtraWord a is
+few_pos false store driver moment beat troubled a is = reported_pos store driver moment beat troubled a is
+
+beat_pos : (ws : List (List ℕ)) (a : Asked) → beat_of ws ≡ Ok a → 0 < a.driver
+beat_pos [] a is = no_fine MissingWord a is
+beat_pos (s ∷ []) a is = no_fine MissingWord a is
+beat_pos (s ∷ d ∷ []) a is = no_fine MissingWord a is
+beat_pos (s ∷ d ∷ m ∷ []) a is = no_fine MissingWord a is
+beat_pos (s ∷ d ∷ m ∷ r ∷ []) a is = no_fine MissingWord a is
+beat_pos (s ∷ d ∷ m ∷ r ∷ b ∷ []) a is = no_fine MissingWord a is
+beat_pos (s ∷ d ∷ m ∷ r ∷ b ∷ e ∷ []) a is = no_fine MissingWord a is
+beat_pos (s ∷ d ∷ m ∷ r ∷ b ∷ e ∷ c ∷ []) a is = no_fine MissingWord a is
+beat_pos (s ∷ d ∷ m ∷ r ∷ b ∷ e ∷ c ∷ v ∷ []) a is = no_fine MissingWord a is
+beat_pos (s ∷ d ∷ m ∷ r ∷ b ∷ e ∷ c ∷ v ∷ l ∷ []) a is = no_fine MissingWord a is
+beat_pos (s ∷ d ∷ m ∷ r ∷ b ∷ e ∷ c ∷ v ∷ l ∷ p ∷ more) a is = few_pos (nat_lt 2 (length more)) s d m (region_of r b e c v l p) (troubled_of more) a is
+
+asked_pos : (verb : StoreVerb) (ws : List (List ℕ)) (a : Asked) → asked_of verb ws ≡ Ok a → 0 < a.driver
+asked_pos ToHello ws a is = hello_pos ws a is
+asked_pos ToAlive ws a is = alive_pos ws a is
+asked_pos ToBeat ws a is = beat_pos ws a is
+
+request_read : (mode : Mode) (first : Bool) (r : Result Asked Reason) (e : Event) → ((a : Asked) → r ≡ Ok a → 0 < a.driver) → with_request r ≡ Ok e → IsRead mode first e
+request_read mode first (Err reason) e pos is = no_fine reason e is
+request_read mode first (Ok a) e pos is = subst (λ (x : Event). IsRead mode first x) (same_ok (Ask a.driver a.request) e is) (pos a refl)
+
+ask_read : (mode : Mode) (first : Bool) (ws : List (List ℕ)) (o : Option StoreVerb) (e : Event) → by_store_verb ws o ≡ Ok e → IsRead mode first e
+ask_read mode first ws None e is = no_fine UnknownWord e is
+ask_read mode first ws (Some verb) e is = request_read mode first (asked_of verb ws) e (λ a same. asked_pos verb ws a same) is
+
+verb_read : (mode : Mode) (first : Bool) (ws : List (List ℕ)) (o : Option Verb) (other : Option StoreVerb) (e : Event) → by_verb mode first ws o other ≡ Ok e → IsRead mode first e
+verb_read mode first ws None other e is = ask_read mode first ws other e is
+verb_read mode first ws (Some verb) other e is = placed_read mode first ws verb e (is_misplaced mode first (row verb).standing) refl is
 
 event_read : (mode : Mode) (first : Bool) (ws : List (List ℕ)) (e : Event) → event_of mode first ws ≡ Ok e → IsRead mode first e
 event_read mode first [] e is = no_fine UnknownWord e is
-event_read mode first (w ∷ ws) e is = verb_read mode first ws (verb_of w) e is
+event_read mode first (w ∷ ws) e is = verb_read mode first ws (verb_of w) (store_verb_of w) e is
 
 -- what a line may be
 abbrev MayBe : Mode → Bool → Result (Option Event) Reason → Type 0
@@ -186,7 +273,7 @@ same_standing Draw n = refl
 
 module _ (drivers clients : ℕ) (n : Numbers) where
   abbrev Within : Verb → Type 0
-  Within verb = (driver_of (record { verb = verb; numbers = n }) ≤ drivers) × (client_of (record { verb = verb; numbers = n }) ≤ clients)
+  Within verb = (driver_of (Step verb n) ≤ drivers) × (client_of (Step verb n) ≤ clients)
 
   lawful_act : (verb : Verb) → InRange (row verb).places n → Within verb → IsLawful drivers clients (act_by verb n)
   lawful_act Cell range low = (omega (arith, range.0.high), omega (arith, range.1.high))
@@ -206,14 +293,24 @@ module _ (drivers clients : ℕ) (n : Numbers) where
   lawful_act Arm range low = (record { pos = omega (arith, range.0.low); low = omega (arith, low.1) }, record { some = omega (arith, range.1.low); most = omega (arith, range.1.high) })
   lawful_act Draw range low = record { pos = omega (arith, range.low); low = omega (arith, low.1) }
 
+-- an event that was read stands where it may, and its act is lawful
+record IsGood (mode : Mode) (drivers clients : ℕ) (first : Bool) (act : Act) : Type 0 where
+  placed : is_misplaced mode first (standing_of act) ≡ false
+  lawful : IsLawful drivers clients act
+
+good_event : (mode : Mode) (drivers clients : ℕ) (first : Bool) (e : Event) → IsRead mode first e → driver_of e ≤ drivers → client_of e ≤ clients → IsGood mode drivers clients first (act_of e)
+good_event mode drivers clients first (Step verb numbers) read most others = record {
+  placed = ap (is_misplaced mode first) (same_standing verb numbers) ∙ read.0;
+  lawful = lawful_act drivers clients numbers verb read.1 (most, others);
+}
+good_event mode drivers clients first (Ask driver request) read most others = record { placed = refl; lawful = record { pos = read; low = most } }
+
 -- all lines
 lawful_lines : (mode : Mode) (drivers clients : ℕ) (first : Bool) (events : List Numbered) → AreRead mode first events → greatest driver_of events ≤ drivers → greatest client_of events ≤ clients → AreLawful mode drivers clients first (map line_of events)
 lawful_lines mode drivers clients first [] read most others = tt
-lawful_lines mode drivers clients first (e ∷ es) read most others = (
-  ap (is_misplaced mode first) (same_standing e.event.verb e.event.numbers) ∙ read.0.placed,
-  lawful_act drivers clients e.event.numbers e.event.verb read.0.range (omega (arith, most), omega (arith, others)),
-  lawful_lines mode drivers clients false es read.1 (omega (arith, most)) (omega (arith, others)),
-)
+lawful_lines mode drivers clients first (e ∷ es) read most others =
+    let good = good_event mode drivers clients first e.event read.0 (omega (arith, most)) (omega (arith, others)) in
+    (good.placed, good.lawful, lawful_lines mode drivers clients false es read.1 (omega (arith, most)) (omega (arith, others)))
 
 unbroken_lawful : (mode : Mode) (events : List Numbered) (script : Script) → broken_by events ≡ None → AreRead mode true events → unless_broken events None ≡ Ok script → IsLawfulScript mode script
 unbroken_lawful mode events script unbroken read is =

@@ -1,4 +1,5 @@
 pub mod Cuts
+pub mod Cutting
 pub mod Greatest
 pub mod Lawful
 pub mod Readings

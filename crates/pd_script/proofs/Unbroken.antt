@@ -1,21 +1,21 @@
 -- Where no limit is broken, each event keeps its limits.
 use Rattle.std.proofs.Common.{◌≡◌, ◌≤◌, List, Bool, true, false, All, cond, length, nat_lt, Some, None, refl, arith}
 use Rattle.std.proofs.lemmas.Bool.Decides.{nat_tests}
-use Rattle.pd_script.specs.Scripts.{broken_by, client_of, driver_of, greatest}
+use Rattle.pd_script.specs.Scripts.{broken_by, client_of, driver_of, greatest, stores_in}
 use Rattle.pd_script.specs.declared.limits.Broken.{Broken}
-use Rattle.pd_script.specs.declared.limits.TheConstants.{MAX_CLIENTS, MAX_DRIVERS, MAX_EVENTS}
+use Rattle.pd_script.specs.declared.limits.TheConstants.{MAX_CLIENTS, MAX_DRIVERS, MAX_EVENTS, MAX_STORES}
 use Rattle.pd_script.specs.declared.verb.Numbered.{Numbered}
 use Rattle.pd_script.proofs.Greatest.{each_within}
 
-no_test : (a b c : Bool) (x y z : Broken) → None ≡ cond a (Some x) (cond b (Some y) (cond c (Some z) None)) → (b ≡ false) × (c ≡ false)
-no_test true b c x y z h = cc
-no_test false true c x y z h = cc
-no_test false false true x y z h = cc
-no_test false false false x y z h = (refl, refl)
+no_test : (a b c d : Bool) (w x y z : Broken) → None ≡ cond a (Some w) (cond b (Some x) (cond c (Some y) (cond d (Some z) None))) → (b ≡ false) × (c ≡ false)
+no_test true b c d w x y z h = cc
+no_test false true c d w x y z h = cc
+no_test false false true d w x y z h = cc
+no_test false false false d w x y z h = (refl, refl)
 
 pub greatest_within : (events : List Numbered) → None ≡ broken_by events → (greatest driver_of events ≤ 7) × (greatest client_of events ≤ 64)
 greatest_within events h =
-    let tests = no_test (nat_lt MAX_EVENTS (length events)) (nat_lt MAX_DRIVERS (greatest driver_of events)) (nat_lt MAX_CLIENTS (greatest client_of events)) _ _ _ h in
+    let tests = no_test (nat_lt MAX_EVENTS (length events)) (nat_lt MAX_DRIVERS (greatest driver_of events)) (nat_lt MAX_CLIENTS (greatest client_of events)) (nat_lt MAX_STORES (stores_in events)) _ _ _ _ h in
     (grind (arith, nat_tests, tests.0), grind (arith, nat_tests, tests.1))
 
 pub drivers_within : (events : List Numbered) → None ≡ broken_by events → All (λ e. driver_of e.event ≤ 7) events

@@ -2,7 +2,7 @@
 use Rattle.std.specs.Prelude.{◌≡◌, ℕ, ◌<◌, ◌≤◌, ◌^◌, List, [], ◌∷◌, Bool, true, false}
 use Rattle.pd_script.specs.Table.{is_misplaced}
 use Rattle.pd_script.specs.declared.act.Act.{Act}
-use Rattle.pd_script.specs.declared.act.Act.TheVariants.{Cell, Lead, Tick, Resign, Take, Tell, Hear, Read, Campaign, Save, Raise, Publish, Probe, Look, Arm, Draw}
+use Rattle.pd_script.specs.declared.act.Act.TheVariants.{Cell, Lead, Tick, Resign, Take, Tell, Hear, Read, Campaign, Save, Raise, Publish, Probe, Look, Arm, Draw, Ask}
 use Rattle.pd_script.specs.declared.act.Line.{Line}
 use Rattle.pd_script.specs.declared.script.Mode.{Mode}
 use Rattle.pd_script.specs.declared.script.Script.{Script}
@@ -37,6 +37,7 @@ IsLawful drivers clients (Probe driver now) = IsOneOf drivers driver × (now < 2
 IsLawful drivers clients (Look client driver) = IsOneOf clients client × IsOneOf drivers driver
 IsLawful drivers clients (Arm client n) = IsOneOf clients client × IsCount n
 IsLawful drivers clients (Draw client) = IsOneOf clients client
+IsLawful drivers clients (Ask driver request) = IsOneOf drivers driver
 
 -- where a line of this act may stand
 abbrev pub standing_of : Act → Standing
@@ -56,6 +57,7 @@ standing_of (Probe driver now) = SingleStep
 standing_of (Look client driver) = SingleStep
 standing_of (Arm client n) = SingleStep
 standing_of (Draw client) = SingleStep
+standing_of (Ask driver request) = Anywhere
 
 -- each line is lawful; whether the next one is the first event
 abbrev pub AreLawful : Mode → ℕ → ℕ → Bool → List Line → Type 0

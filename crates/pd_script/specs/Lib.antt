@@ -1,3 +1,5 @@
+pub mod Asks
+pub mod Forms
 pub mod Grammar
 pub mod Lawful
 pub mod Numbering

@@ -1,6 +1,9 @@
 -- When a text is refused.
 use Rattle.std.specs.Prelude.{◌≡◌, ℕ, List, [], ◌∷◌, Option, Some, None, Result, Err}
 use Rattle.pd_script.specs.Grammar.{AtFault}
+use Rattle.pd_script.specs.declared.refusal.LineRefusal.{LineRefusal}
+use Rattle.pd_script.specs.declared.refusal.LineRefusal.TheVariants.{Fault as AtReason, NoMemory as NoRoom}
+use Rattle.pd_script.specs.declared.refusal.Reason.{Reason}
 use Rattle.pd_script.specs.declared.refusal.ScriptRefusal.{ScriptRefusal}
 use Rattle.pd_script.specs.declared.refusal.ScriptRefusal.TheVariants.{Fault, Limit, NoMemory}
 use Rattle.pd_script.specs.declared.script.Script.{Script}
@@ -23,3 +26,13 @@ IsFault events NoMemory = Unit {0}
 abbrev pub kept : ℕ → Option Event → List Numbered
 kept number None = []
 kept number (Some event) = record { number = number; event = event } ∷ []
+
+-- the refusal is that of what was read, but for want of memory
+abbrev pub IsLineRefusal : {A : Type 0} → Result A Reason → LineRefusal → Type 0
+IsLineRefusal read (AtReason reason) = read ≡ Err reason
+IsLineRefusal read NoRoom = Unit {0}
+
+-- the refusal of a text whose line of this number is refused so
+abbrev pub at_line : ℕ → LineRefusal → ScriptRefusal
+at_line line (AtReason reason) = Fault line reason
+at_line line NoRoom = NoMemory

@@ -1,22 +1,27 @@
 -- The script of a text: its lines, and the limits that it keeps (own choice).
 use Rattle.std.specs.Prelude.{ℕ, List, [], ◌∷◌, length, map, max, nat_lt, Option, Some, None, Result, Ok, Err, if◌then◌else◌}
+use Rattle.std.specs.BTreeSet.{insert_key}
+use Rattle.std.specs.Ordering.{nat_cmp}
 use Rattle.pd_types.specs.declared.oracle.Actor.{Actor}
-use Rattle.pd_types.specs.declared.oracle.Actor.TheVariants.{Driver as ByDriver, Client as ByClient}
+use Rattle.pd_types.specs.declared.oracle.Actor.TheVariants.{Driver as ByDriver, Client as ByClient, Store as ByStore}
+use Rattle.pd_types.specs.declared.request.Request.{Request}
+use Rattle.pd_types.specs.declared.request.Request.TheVariants.{Hello, Alive, Beat, Term as BeginTerm, Retire}
 use Rattle.pd_script.specs.Grammar.{AtFault, events_of}
 use Rattle.pd_script.specs.Table.{row}
 use Rattle.pd_script.specs.declared.act.Act.{Act}
-use Rattle.pd_script.specs.declared.act.Act.TheVariants.{Cell as CellAct, Lead as LeadAct, Tick as TickAct, Resign as ResignAct, Take as TakeAct, Tell as TellAct, Hear as HearAct, Read as ReadAct, Campaign as CampaignAct, Save as SaveAct, Raise as RaiseAct, Publish as PublishAct, Probe as ProbeAct, Look as LookAct, Arm as ArmAct, Draw as DrawAct}
+use Rattle.pd_script.specs.declared.act.Act.TheVariants.{Cell as CellAct, Lead as LeadAct, Tick as TickAct, Resign as ResignAct, Take as TakeAct, Tell as TellAct, Hear as HearAct, Read as ReadAct, Campaign as CampaignAct, Save as SaveAct, Raise as RaiseAct, Publish as PublishAct, Probe as ProbeAct, Look as LookAct, Arm as ArmAct, Draw as DrawAct, Ask as AskAct}
 use Rattle.pd_script.specs.declared.act.Line.{Line}
 use Rattle.pd_script.specs.declared.limits.Broken.{Broken}
-use Rattle.pd_script.specs.declared.limits.TheConstants.{MAX_CLIENTS, MAX_DRIVERS, MAX_EVENTS}
+use Rattle.pd_script.specs.declared.limits.TheConstants.{MAX_CLIENTS, MAX_DRIVERS, MAX_EVENTS, MAX_STORES}
 use Rattle.pd_script.specs.declared.place.Place.{Place}
-use Rattle.pd_script.specs.declared.place.Place.TheVariants.{Driver, Client, Moment, Count, Saved, Term}
-use Rattle.pd_script.specs.declared.refusal.Limited.TheVariants.{Events, Drivers, Clients}
+use Rattle.pd_script.specs.declared.place.Place.TheVariants.{Driver, Client, Moment, Count, Saved, Term, Id, Version, Seconds}
+use Rattle.pd_script.specs.declared.refusal.Limited.TheVariants.{Events, Drivers, Clients, Stores}
 use Rattle.pd_script.specs.declared.refusal.ScriptRefusal.{ScriptRefusal}
 use Rattle.pd_script.specs.declared.refusal.ScriptRefusal.TheVariants.{Fault, Limit}
 use Rattle.pd_script.specs.declared.script.Mode.{Mode}
 use Rattle.pd_script.specs.declared.script.Script.{Script}
 use Rattle.pd_script.specs.declared.verb.Event.{Event}
+use Rattle.pd_script.specs.declared.verb.Event.TheVariants.{Step, Ask}
 use Rattle.pd_script.specs.declared.verb.Numbered.{Numbered}
 use Rattle.pd_script.specs.declared.verb.Numbers.{Numbers}
 use Rattle.pd_script.specs.declared.verb.Places.{Places}
@@ -51,6 +56,9 @@ acting Moment n = None
 acting Count n = None
 acting Saved n = None
 acting Term n = None
+acting Id n = None
+acting Version n = None
+acting Seconds n = None
 
 -- who acts: the driver or the client that stands first
 abbrev pub actor_by : Places → Numbers → Option Actor
@@ -66,6 +74,9 @@ if_driver Moment n = 0
 if_driver Count n = 0
 if_driver Saved n = 0
 if_driver Term n = 0
+if_driver Id n = 0
+if_driver Version n = 0
+if_driver Seconds n = 0
 
 -- the number, where the place is a client's, else 0
 abbrev pub if_client : Place → ℕ → ℕ
@@ -75,6 +86,9 @@ if_client Moment n = 0
 if_client Count n = 0
 if_client Saved n = 0
 if_client Term n = 0
+if_client Id n = 0
+if_client Version n = 0
+if_client Seconds n = 0
 
 -- the greatest number that stands in the places of one kind
 abbrev pub greatest_in : (Place → ℕ → ℕ) → Places → Numbers → ℕ
@@ -82,18 +96,62 @@ greatest_in at (One p) n = at p n.first
 greatest_in at (Two p q) n = max (at p n.first) (at q n.second)
 greatest_in at (Three p q r) n = max (max (at p n.first) (at q n.second)) (at r n.third)
 
+-- the store that speaks; none where no store does
+abbrev pub speaker : Request → List ℕ
+speaker (Hello store moment address labels) = store ∷ []
+speaker (Alive store moment) = store ∷ []
+speaker (Beat store moment beat) = store ∷ []
+speaker (BeginTerm term moment) = []
+speaker Retire = []
+
+-- the actor of the store that speaks
+abbrev pub as_store : List ℕ → Option Actor
+as_store [] = None
+as_store (store ∷ stores) = Some (ByStore store)
+
 -- the greatest driver that an event names
 abbrev pub driver_of : Event → ℕ
-driver_of event = greatest_in if_driver (row event.verb).places event.numbers
+driver_of (Step verb numbers) = greatest_in if_driver (row verb).places numbers
+driver_of (Ask driver request) = driver
 
 -- the greatest client that an event names
 abbrev pub client_of : Event → ℕ
-client_of event = greatest_in if_client (row event.verb).places event.numbers
+client_of (Step verb numbers) = greatest_in if_client (row verb).places numbers
+client_of (Ask driver request) = 0
+
+-- the store that speaks in an event, where there is one
+abbrev pub store_of : Event → List ℕ
+store_of (Step verb numbers) = []
+store_of (Ask driver request) = speaker request
+
+-- who acts in an event
+abbrev pub actor_of : Event → Option Actor
+actor_of (Step verb numbers) = actor_by (row verb).places numbers
+actor_of (Ask driver request) = as_store (speaker request)
+
+-- what an event does
+abbrev pub act_of : Event → Act
+act_of (Step verb numbers) = act_by verb numbers
+act_of (Ask driver request) = AskAct driver request
 
 -- the greatest of such numbers, at least 1
 abbrev pub greatest : (Event → ℕ) → List Numbered → ℕ
 greatest of [] = 1
 greatest of (e ∷ es) = max (of e.event) (greatest of es)
+
+-- the set of stores with those that speak in an event, as a rising list
+abbrev pub with_stores : List ℕ → List ℕ → List ℕ
+with_stores known [] = known
+with_stores known (store ∷ stores) = insert_key nat_cmp known store
+
+-- the set of stores with all that speak in these events
+abbrev pub stores_from : List ℕ → List Numbered → List ℕ
+stores_from known [] = known
+stores_from known (e ∷ es) = stores_from (with_stores known (store_of e.event)) es
+
+-- how many stores speak
+abbrev pub stores_in : List Numbered → ℕ
+stores_in events = length (stores_from [] events)
 
 -- the first limit that the events break
 abbrev pub broken_by : List Numbered → Option Broken
@@ -101,11 +159,12 @@ broken_by events =
     if nat_lt MAX_EVENTS (length events) then Some (record { what = Events; count = length events })
     else if nat_lt MAX_DRIVERS (greatest driver_of events) then Some (record { what = Drivers; count = greatest driver_of events })
     else if nat_lt MAX_CLIENTS (greatest client_of events) then Some (record { what = Clients; count = greatest client_of events })
+    else if nat_lt MAX_STORES (stores_in events) then Some (record { what = Stores; count = stores_in events })
     else None
 
 -- the line of an event
 abbrev pub line_of : Numbered → Line
-line_of e = record { number = e.number; actor = actor_by (row e.event.verb).places e.event.numbers; act = act_by e.event.verb e.event.numbers }
+line_of e = record { number = e.number; actor = actor_of e.event; act = act_of e.event }
 
 -- the script of these events, where no limit is broken
 abbrev pub unless_broken : List Numbered → Option Broken → Result Script ScriptRefusal

@@ -1,7 +1,7 @@
-use pd_types::Actor;
+use pd_types::{Actor, Request};
 
 /// What a line does. Moments are in milliseconds since the epoch.
-#[derive(Clone, Copy, Debug, PartialEq, Eq)]
+#[derive(Debug, Drop, PartialEq)]
 pub enum Act {
     /// The opening cell: the saved time and the last term.
     Cell { saved: u64, term: u64 },
@@ -35,11 +35,13 @@ pub enum Act {
     Arm { client: u8, n: u64 },
     /// Adds the armed count to the cursor.
     Draw { client: u8 },
+    /// A request to a driver's cluster.
+    Ask { driver: u8, request: Request },
 }
 
 /// A line of a script: its number, counted from 1 over all lines of the text, and who acts in it
 /// (none in a `cell` line).
-#[derive(Clone, Copy, Debug, PartialEq, Eq)]
+#[derive(Debug, Drop, PartialEq)]
 pub struct Line {
     pub number: u32,
     pub actor: Option<Actor>,

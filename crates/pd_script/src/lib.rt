@@ -2,6 +2,9 @@
 #![tactic(auto)]
 
 mod act;
+mod ask;
+mod form;
+mod items;
 mod limits;
 mod line;
 mod place;
@@ -18,4 +21,4 @@ pub use place::Place;
 pub use reading::read_script;
 pub use refusal::{Limited, Reason, ScriptRefusal};
 pub use script::{Lines, Mode, Script};
-pub use verb::{Event, Standing, Verb};
+pub use verb::{Event, Standing, StoreVerb, Verb};

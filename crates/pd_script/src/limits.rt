@@ -1,11 +1,13 @@
 // The limits of a script, and the lines of its events.
-ghost use Rattle.std.specs.Prelude.{◌≡◌, ◌≤◌};
-ghost use Rattle.pd_script.specs.Scripts.{act_by, acting, actor_by, broken_by, client_of, driver_of, greatest, if_client, if_driver, line_of};
+ghost use Rattle.std.specs.Prelude.{◌≡◌, ◌≤◌, IfOk, option_to_list};
+ghost use Rattle.pd_script.specs.Scripts.{act_by, act_of, acting, actor_by, actor_of, broken_by, client_of, driver_of, greatest, greatest_in, if_client, if_driver, line_of, speaker, store_of, stores_in};
 ghost use Rattle.pd_script.specs.Table.{row};
 
 use crate::verb::{Event, Numbered, Numbers, Places, Verb};
 use crate::{Act, Limited, Line, Place};
-use pd_types::Actor;
+use pd_types::{Actor, NoMemory, Request};
+use std::alloc::Global;
+use std::collections::BTreeSet;
 
 /// How many events a script has at most.
 pub const MAX_EVENTS: usize = 65536;
@@ -15,6 +17,9 @@ pub const MAX_DRIVERS: u64 = 7;
 
 /// The greatest number of a client.
 pub const MAX_CLIENTS: u64 = 64;
+
+/// How many stores speak at most.
+pub const MAX_STORES: u64 = 256;
 
 /// A limit that is broken, and what was counted.
 #[derive(Clone, Copy, Debug, PartialEq, Eq)]
@@ -29,6 +34,7 @@ fn if_driver(place: Place, n: u64) -> u64
     match place {
         Place::Driver => n,
         Place::Client | Place::Moment | Place::Count | Place::Saved | Place::Term => 0,
+        Place::Id | Place::Version | Place::Seconds => 0,
     }
 }
 
@@ -38,35 +44,75 @@ fn if_client(place: Place, n: u64) -> u64
     match place {
         Place::Client => n,
         Place::Driver | Place::Moment | Place::Count | Place::Saved | Place::Term => 0,
+        Place::Id | Place::Version | Place::Seconds => 0,
+    }
+}
+
+// The greatest driver in the places of a line.
+fn driver_in(places: Places, n: Numbers) -> u64
+    ensures value { result ≡ greatest_in if_driver places n }
+{
+    match places {
+        Places::One(p) => if_driver(p, n.first),
+        Places::Two(p, q) => if_driver(p, n.first).max(if_driver(q, n.second)),
+        Places::Three(p, q, r) => if_driver(p, n.first)
+            .max(if_driver(q, n.second))
+            .max(if_driver(r, n.third)),
+    }
+}
+
+// The greatest client in the places of a line.
+fn client_in(places: Places, n: Numbers) -> u64
+    ensures value { result ≡ greatest_in if_client places n }
+{
+    match places {
+        Places::One(p) => if_client(p, n.first),
+        Places::Two(p, q) => if_client(p, n.first).max(if_client(q, n.second)),
+        Places::Three(p, q, r) => if_client(p, n.first)
+            .max(if_client(q, n.second))
+            .max(if_client(r, n.third)),
+    }
+}
+
+// The store that speaks in a request, where one does.
+fn speaker(request: &Request) -> Option<u64>
+    ensures value { option_to_list result ≡ speaker request.now }
+{
+    match request {
+        Request::Hello { store, .. } | Request::Alive { store, .. } | Request::Beat { store, .. } =>
+            { Some(*store) }
+        Request::Term { .. } | Request::Retire => None,
     }
 }
 
 impl Event {
     /// The greatest driver that it names, 0 without one.
-    pub fn driver(self) -> u64
-        ensures value { result ≡ driver_of self }
+    pub fn driver(&self) -> u64
+        ensures value { result ≡ driver_of self.now }
     {
-        let n = self.numbers;
-        match self.verb.places() {
-            Places::One(p) => if_driver(p, n.first),
-            Places::Two(p, q) => if_driver(p, n.first).max(if_driver(q, n.second)),
-            Places::Three(p, q, r) => if_driver(p, n.first)
-                .max(if_driver(q, n.second))
-                .max(if_driver(r, n.third)),
+        match self {
+            Event::Step { verb, numbers } => driver_in(verb.places(), *numbers),
+            Event::Ask { driver, .. } => *driver,
         }
     }
 
     /// The greatest client that it names, 0 without one.
-    pub fn client(self) -> u64
-        ensures value { result ≡ client_of self }
+    pub fn client(&self) -> u64
+        ensures value { result ≡ client_of self.now }
     {
-        let n = self.numbers;
-        match self.verb.places() {
-            Places::One(p) => if_client(p, n.first),
-            Places::Two(p, q) => if_client(p, n.first).max(if_client(q, n.second)),
-            Places::Three(p, q, r) => if_client(p, n.first)
-                .max(if_client(q, n.second))
-                .max(if_client(r, n.third)),
+        match self {
+            Event::Step { verb, numbers } => client_in(verb.places(), *numbers),
+            Event::Ask { .. } => 0,
+        }
+    }
+
+    /// The store that speaks in it, where one does.
+    pub fn store(&self) -> Option<u64>
+        ensures value { option_to_list result ≡ store_of self.now }
+    {
+        match self {
+            Event::Step { .. } => None,
+            Event::Ask { request, .. } => speaker(request),
         }
     }
 
@@ -74,73 +120,88 @@ impl Event {
     pub fn act(self) -> Act
         requires drivers { driver_of self ≤ 7 }
         requires clients { client_of self ≤ 64 }
-        ensures value { result ≡ act_by self.verb self.numbers }
+        ensures value { result ≡ act_of self }
     {
-        let Numbers {
-            first,
-            second,
-            third,
-        } = self.numbers;
-        match self.verb {
-            Verb::Cell => Act::Cell {
-                saved: first,
-                term: second,
-            },
-            Verb::Lead => Act::Lead {
-                driver: first as u8,
-                now: second,
-            },
-            Verb::Tick => Act::Tick {
-                driver: first as u8,
-                now: second,
-            },
-            Verb::Resign => Act::Resign {
-                driver: first as u8,
-            },
-            Verb::Take => Act::Take {
-                client: first as u8,
-                driver: second as u8,
-                n: third,
-            },
-            Verb::Tell => Act::Tell {
-                client: first as u8,
-                to: second as u8,
-            },
-            Verb::Hear => Act::Hear {
-                client: first as u8,
-            },
-            Verb::Read => Act::Read {
-                driver: first as u8,
-                now: second,
-            },
-            Verb::Campaign => Act::Campaign {
-                driver: first as u8,
-            },
-            Verb::Save => Act::Save {
-                driver: first as u8,
-            },
-            Verb::Raise => Act::Raise {
-                driver: first as u8,
-            },
-            Verb::Publish => Act::Publish {
-                driver: first as u8,
-            },
-            Verb::Probe => Act::Probe {
-                driver: first as u8,
-                now: second,
-            },
-            Verb::Look => Act::Look {
-                client: first as u8,
-                driver: second as u8,
-            },
-            Verb::Arm => Act::Arm {
-                client: first as u8,
-                n: second,
-            },
-            Verb::Draw => Act::Draw {
-                client: first as u8,
+        match self {
+            Event::Step { verb, numbers } => step_act(verb, numbers),
+            Event::Ask { driver, request } => Act::Ask {
+                driver: driver as u8,
+                request,
             },
         }
+    }
+}
+
+// What a line of the oracle does.
+fn step_act(verb: Verb, numbers: Numbers) -> Act
+    requires drivers { greatest_in if_driver (row verb).places numbers ≤ 7 }
+    requires clients { greatest_in if_client (row verb).places numbers ≤ 64 }
+    ensures value { result ≡ act_by verb numbers }
+{
+    let Numbers {
+        first,
+        second,
+        third,
+    } = numbers;
+    match verb {
+        Verb::Cell => Act::Cell {
+            saved: first,
+            term: second,
+        },
+        Verb::Lead => Act::Lead {
+            driver: first as u8,
+            now: second,
+        },
+        Verb::Tick => Act::Tick {
+            driver: first as u8,
+            now: second,
+        },
+        Verb::Resign => Act::Resign {
+            driver: first as u8,
+        },
+        Verb::Take => Act::Take {
+            client: first as u8,
+            driver: second as u8,
+            n: third,
+        },
+        Verb::Tell => Act::Tell {
+            client: first as u8,
+            to: second as u8,
+        },
+        Verb::Hear => Act::Hear {
+            client: first as u8,
+        },
+        Verb::Read => Act::Read {
+            driver: first as u8,
+            now: second,
+        },
+        Verb::Campaign => Act::Campaign {
+            driver: first as u8,
+        },
+        Verb::Save => Act::Save {
+            driver: first as u8,
+        },
+        Verb::Raise => Act::Raise {
+            driver: first as u8,
+        },
+        Verb::Publish => Act::Publish {
+            driver: first as u8,
+        },
+        Verb::Probe => Act::Probe {
+            driver: first as u8,
+            now: second,
+        },
+        Verb::Look => Act::Look {
+            client: first as u8,
+            driver: second as u8,
+        },
+        Verb::Arm => Act::Arm {
+            client: first as u8,
+            n: second,
+        },
+        Verb::Draw => Act::Draw {
+            client: first as u8,
+        },
     }
 }
 
@@ -154,20 +215,32 @@ fn acting(place: Place, n: u64) -> Option<Actor>
         Place::Driver => Some(Actor::Driver(n as u8)),
         Place::Client => Some(Actor::Client(n as u8)),
         Place::Moment | Place::Count | Place::Saved | Place::Term => None,
+        Place::Id | Place::Version | Place::Seconds => None,
+    }
+}
+
+// Who acts in a line of the oracle.
+fn step_actor(places: Places, n: Numbers) -> Option<Actor>
+    requires drivers { greatest_in if_driver places n ≤ 7 }
+    requires clients { greatest_in if_client places n ≤ 64 }
+    ensures value { result ≡ actor_by places n }
+{
+    match places {
+        Places::One(p) => acting(p, n.first),
+        Places::Two(p, _) => acting(p, n.first),
+        Places::Three(p, _, _) => acting(p, n.first),
     }
 }
 
 // Who acts in an event.
-fn actor(event: Event) -> Option<Actor>
-    requires drivers { driver_of event ≤ 7 }
-    requires clients { client_of event ≤ 64 }
-    ensures value { result ≡ actor_by (row event.verb).places event.numbers }
+fn actor(event: &Event) -> Option<Actor>
+    requires drivers { driver_of event.now ≤ 7 }
+    requires clients { client_of event.now ≤ 64 }
+    ensures value { result ≡ actor_of event.now }
 {
-    let first = event.numbers.first;
-    match event.verb.places() {
-        Places::One(p) => acting(p, first),
-        Places::Two(p, _) => acting(p, first),
-        Places::Three(p, _, _) => acting(p, first),
+    match event {
+        Event::Step { verb, numbers } => step_actor(verb.places(), *numbers),
+        Event::Ask { request, .. } => speaker(request).map(Actor::Store),
     }
 }
 
@@ -193,31 +266,51 @@ pub fn clients(events: &[Numbered]) -> u64
     most
 }
 
+/// How many stores speak in the events.
+pub fn stores(alloc: Global, events: &[Numbered]) -> Result<u64, NoMemory>
+    ensures value { IfOk result (λ count. count ≡ stores_in events.now) }
+{
+    let mut stores = BTreeSet::new(alloc);
+    for numbered in events {
+        if let Some(store) = numbered.event.store() {
+            stores.insert(store)?;
+        }
+    }
+    Ok(stores.len() as u64)
+}
+
 /// The first limit that the events break, and what was counted.
-pub fn first_broken(events: &[Numbered]) -> Option<Broken>
-    ensures value { result ≡ broken_by events.now }
+pub fn first_broken(alloc: Global, events: &[Numbered]) -> Result<Option<Broken>, NoMemory>
+    ensures value { IfOk result (λ broken. broken ≡ broken_by events.now) }
 {
     if events.len() > MAX_EVENTS {
-        return Some(Broken {
+        return Ok(Some(Broken {
             what: Limited::Events,
             count: events.len() as u64,
-        });
+        }));
     }
     let most = drivers(events);
     if most > MAX_DRIVERS {
-        return Some(Broken {
+        return Ok(Some(Broken {
             what: Limited::Drivers,
             count: most,
-        });
+        }));
     }
     let most = clients(events);
     if most > MAX_CLIENTS {
-        return Some(Broken {
+        return Ok(Some(Broken {
             what: Limited::Clients,
             count: most,
-        });
+        }));
     }
-    None
+    let count = stores(alloc, events)?;
+    if count > MAX_STORES {
+        return Ok(Some(Broken {
+            what: Limited::Stores,
+            count,
+        }));
+    }
+    Ok(None)
 }
 
 /// The line of an event whose drivers and clients are within their limits.
@@ -226,9 +319,10 @@ pub fn line(numbered: Numbered) -> Line
     requires clients { client_of numbered.event ≤ 64 }
     ensures value { result ≡ line_of numbered }
 {
+    let actor = actor(&numbered.event);
     Line {
         number: numbered.number,
-        actor: actor(numbered.event),
+        actor,
         act: numbered.event.act(),
     }
 }

@@ -1,16 +1,21 @@
 // What one line of a text says.
-ghost use Rattle.std.specs.Prelude.{◌≡◌, ◌∷◌, [], MatchResult};
-ghost use Rattle.pd_script.specs.Grammar.{content_of, event_of, has_bad_byte, numbers_of};
+ghost use Rattle.std.specs.Prelude.{◌≡◌, ◌∷◌, [], IfOk, IfErr, MatchResult, Ok};
+ghost use Rattle.pd_script.specs.Asks.{store_verb_of};
+ghost use Rattle.pd_script.specs.Grammar.{by_store_verb, content_of, event_of, has_bad_byte, numbers_of, step_of};
+ghost use Rattle.pd_script.specs.Refusals.{IsLineRefusal};
 ghost use Rattle.pd_script.specs.Words.{words};
 ghost use Rattle.pd_script.specs.Table.{is_misplaced};
 
+use crate::ask::{Asked, read_asked};
 use crate::place::read_place;
+use crate::refusal::LineRefusal;
 use crate::split::next_word;
-use crate::verb::{Event, Numbers, Places, Standing, verb_of};
+use crate::verb::{Event, Numbers, Places, Standing, Verb, store_verb_of, verb_of};
 use crate::{Mode, Place, Reason};
+use std::alloc::Global;
 
-// The next word, which may not be missing.
-fn word(rest: &[u8]) -> Result<(&[u8], &[u8]), Reason>
+/// The next word, which may not be missing.
+pub fn word(rest: &[u8]) -> Result<(&[u8], &[u8]), Reason>
     ensures value { MatchResult result (λ p. words rest.now ≡ p.0.now ∷ words p.1.now) (λ reason. (words rest.now ≡ []) × (reason ≡ Reason.MissingWord)) }
 {
     match next_word(rest) {
@@ -88,18 +93,44 @@ fn misplaced(mode: Mode, first: bool, standing: Standing) -> bool
     }
 }
 
-// What a line with this first word says.
-fn event(mode: Mode, first: bool, name: &[u8], rest: &[u8]) -> Result<Event, Reason>
-    ensures value { result ≡ event_of mode first (name.now ∷ words rest.now) }
+// What a line of the oracle says.
+fn step(mode: Mode, first: bool, verb: Verb, rest: &[u8]) -> Result<Event, Reason>
+    ensures value { result ≡ step_of mode first verb (words rest.now) }
 {
-    let Some(verb) = verb_of(name) else {
-        return Err(Reason::UnknownWord);
-    };
     if misplaced(mode, first, verb.standing()) {
         return Err(Reason::Misplaced);
     }
     let numbers = numbers(verb.places(), rest)?;
-    Ok(Event { verb, numbers })
+    Ok(Event::Step { verb, numbers })
+}
+
+// What a line that isn't the oracle's says.
+fn ask(alloc: Global, name: &[u8], rest: &[u8]) -> Result<Event, LineRefusal>
+    ensures ok { IfOk result (λ event. by_store_verb (words rest.now) (store_verb_of name.now) ≡ Ok event) }
+    ensures refused { IfErr result (IsLineRefusal (by_store_verb (words rest.now) (store_verb_of name.now))) }
+{
+    let Some(verb) = store_verb_of(name) else {
+        return Err(LineRefusal::Fault(Reason::UnknownWord));
+    };
+    let Asked { driver, request } = read_asked(alloc, verb, rest)?;
+    Ok(Event::Ask { driver, request })
+}
+
+// What a line with this first word says.
+fn event(
+    alloc: Global,
+    mode: Mode,
+    first: bool,
+    name: &[u8],
+    rest: &[u8],
+) -> Result<Event, LineRefusal>
+    ensures ok { IfOk result (λ event. event_of mode first (name.now ∷ words rest.now) ≡ Ok event) }
+    ensures refused { IfErr result (IsLineRefusal (event_of mode first (name.now ∷ words rest.now))) }
+{
+    match verb_of(name) {
+        Some(verb) => Ok(step(mode, first, verb, rest)?),
+        None => ask(alloc, name, rest),
+    }
 }
 
 fn bad_byte(line: &[u8]) -> bool
@@ -110,8 +141,14 @@ fn bad_byte(line: &[u8]) -> bool
 
 /// What a line that has its line feed says, none where it is passed over; `first` says whether no
 /// event stands before it.
-pub fn content(mode: Mode, first: bool, line: &[u8]) -> Result<Option<Event>, Reason>
-    ensures value { result ≡ content_of mode first line.now }
+pub fn content(
+    alloc: Global,
+    mode: Mode,
+    first: bool,
+    line: &[u8],
+) -> Result<Option<Event>, LineRefusal>
+    ensures ok { IfOk result (λ said. content_of mode first line.now ≡ Ok said) }
+    ensures refused { IfErr result (IsLineRefusal (content_of mode first line.now)) }
 {
     let Some((name, rest)) = next_word(line) else {
         return Ok(None);
@@ -120,8 +157,8 @@ pub fn content(mode: Mode, first: bool, line: &[u8]) -> Result<Option<Event>, Re
         return Ok(None);
     }
     if bad_byte(line) {
-        return Err(Reason::BadByte);
+        return Err(LineRefusal::Fault(Reason::BadByte));
     }
-    let event = event(mode, first, name, rest)?;
+    let event = event(alloc, mode, first, name, rest)?;
     Ok(Some(event))
 }

@@ -18,6 +18,12 @@ pub enum Place {
     /// A saved time in milliseconds since the epoch.
     Saved,
     Term,
+    /// The id of a store, a region or a peer, from 1.
+    Id,
+    /// A version or conf_ver of a region.
+    Version,
+    /// For how many seconds a peer is down.
+    Seconds,
 }
 
 impl Place {
@@ -26,8 +32,9 @@ impl Place {
         ensures value { result ≡ least self }
     {
         match self {
-            Place::Driver | Place::Client | Place::Count => 1,
+            Place::Driver | Place::Client | Place::Count | Place::Id => 1,
             Place::Moment | Place::Saved | Place::Term => 0,
+            Place::Version | Place::Seconds => 0,
         }
     }
 
@@ -40,6 +47,8 @@ impl Place {
             Place::Moment => (1 << 46) - 1,
             Place::Saved => (1 << 45) - 1,
             Place::Count | Place::Term => 262_143,
+            Place::Id | Place::Version => (1 << 63) - 1,
+            Place::Seconds => (1 << 32) - 1,
         }
     }
 }

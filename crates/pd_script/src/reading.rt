@@ -38,14 +38,10 @@ fn read_events(alloc: Global, text: &[u8], mode: Mode) -> Result<Vec<Numbered>, 
         if *byte != b'\n' {
             continue;
         }
-        let said = match content(mode, events.as_slice().is_empty(), &text[start..i]) {
+        let first = events.as_slice().is_empty();
+        let said = match content(alloc, mode, first, &text[start..i]) {
             Ok(said) => said,
-            Err(reason) => {
-                return Err(ScriptRefusal::Fault {
-                    line: number,
-                    reason,
-                });
-            }
+            Err(refusal) => return Err(refusal.at(number)),
         };
         match keep(&mut events, number, said) {
             Ok(()) => {}
@@ -64,14 +60,14 @@ fn read_events(alloc: Global, text: &[u8], mode: Mode) -> Result<Vec<Numbered>, 
 }
 
 // The lines of events whose drivers and clients are within their limits.
-fn lines_of(alloc: Global, events: &[Numbered]) -> Result<Vec<Line>, NoMemory>
-    requires drivers { All (λ e. driver_of e.event ≤ 7) events.now }
-    requires clients { All (λ e. client_of e.event ≤ 64) events.now }
-    ensures ok { IfOk result (λ lines. lines.items ≡ map line_of events.now) }
+fn lines_of(alloc: Global, events: Vec<Numbered>) -> Result<Vec<Line>, NoMemory>
+    requires drivers { All (λ e. driver_of e.event ≤ 7) events.items }
+    requires clients { All (λ e. client_of e.event ≤ 64) events.items }
+    ensures ok { IfOk result (λ lines. lines.items ≡ map line_of events.items) }
 {
     let mut lines = Vec::new(alloc);
     for numbered in events {
-        lines.push(line(*numbered))?;
+        lines.push(line(numbered))?;
     }
     Ok(lines)
 }
@@ -88,13 +84,16 @@ pub fn read_script(alloc: Global, text: &[u8], mode: Mode) -> Result<Script, Scr
         Ok(events) => events,
         Err(refusal) => return Err(refusal),
     };
-    if let Some(Broken { what, count }) = first_broken(&events) {
-        return Err(ScriptRefusal::Limit { what, count });
+    match first_broken(alloc, &events) {
+        Ok(None) => {}
+        Ok(Some(Broken { what, count })) => return Err(ScriptRefusal::Limit { what, count }),
+        Err(_) => return Err(ScriptRefusal::NoMemory),
     }
-    match lines_of(alloc, &events) {
+    let (drivers, clients) = (drivers(&events) as u8, clients(&events) as u8);
+    match lines_of(alloc, events) {
         Ok(lines) => Ok(Script {
-            drivers: drivers(&events) as u8,
-            clients: clients(&events) as u8,
+            drivers,
+            clients,
             lines: Lines::of(lines),
         }),
         Err(_) => Err(ScriptRefusal::NoMemory),

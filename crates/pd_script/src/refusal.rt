@@ -1,6 +1,10 @@
 ghost use Rattle.std.specs.Prelude.{◌≡◌};
 ghost use Rattle.pd_script.specs.Numbering.{reason_number};
+ghost use Rattle.pd_script.specs.Refusals.{at_line};
+ghost use Rattle.pd_script.specs.declared.refusal.LineRefusal.TheVariants.{Fault, NoMemory as NoRoom};
 
+use pd_types::NoMemory;
+use std::alloc::AllocError;
 use thiserror::Error;
 
 /// Why a line is at fault. The variants are numbered from 1 in this order.
@@ -32,6 +36,7 @@ pub enum Limited {
     Events,
     Drivers,
     Clients,
+    Stores,
 }
 
 /// Why a text is no script.
@@ -62,6 +67,50 @@ impl Reason {
             Reason::OutOfRange => 7,
             Reason::BadWord => 8,
             Reason::Misplaced => 9,
+        }
+    }
+}
+
+/// Why a line isn't kept.
+#[derive(Clone, Copy, Debug, PartialEq, Eq)]
+pub enum LineRefusal {
+    /// It is at fault.
+    Fault(Reason),
+    NoMemory,
+}
+
+impl From<Reason> for LineRefusal {
+    ghost from_gives = { λ reason refusal. refusal ≡ Fault reason };
+
+    fn from(reason: Reason) -> Self {
+        LineRefusal::Fault(reason)
+    }
+}
+
+impl From<NoMemory> for LineRefusal {
+    ghost from_gives = { λ _ refusal. refusal ≡ NoRoom };
+
+    fn from(_: NoMemory) -> Self {
+        LineRefusal::NoMemory
+    }
+}
+
+impl From<AllocError> for LineRefusal {
+    ghost from_gives = { λ _ refusal. refusal ≡ NoRoom };
+
+    fn from(_: AllocError) -> Self {
+        LineRefusal::NoMemory
+    }
+}
+
+impl LineRefusal {
+    /// The refusal of a text whose line of this number is refused so.
+    pub fn at(self, line: u32) -> ScriptRefusal
+        ensures value { result ≡ at_line line self }
+    {
+        match self {
+            LineRefusal::Fault(reason) => ScriptRefusal::Fault { line, reason },
+            LineRefusal::NoMemory => ScriptRefusal::NoMemory,
         }
     }
 }

@@ -82,7 +82,76 @@ const REPLAY: &str = "\
 4 arm 1
 0 draw 1
 5 draw 1 2
-3 hello 1 1 1 a
+0 hello 1 1 1 a
+0 hello 1 1 1 a zone=z1
+0 hello 9223372036854775807 7 70368744177663 A-Z.a_z:0/9- a=1,b=2,c=3,d=4
+0 hello 1 1 1 aaaaaaaaaaaaaaaaaaaaaaaaaaaaaaaaaaaaaaaaaaaaaaaaaaaaaaaaaaaaaaaa
+8 hello 1 1 1 aaaaaaaaaaaaaaaaaaaaaaaaaaaaaaaaaaaaaaaaaaaaaaaaaaaaaaaaaaaaaaaaa
+8 hello 1 1 1 a+b
+7 hello 0 1 1 a
+7 hello 9223372036854775808 1 1 a
+7 hello 1 0 1 a
+7 hello 1 1 70368744177664 a
+6 hello x 1 1 a+b
+6 hello 1 1 x a+b
+8 hello 1 1 1 a zone
+8 hello 1 1 1 a zone=
+8 hello 1 1 1 a =z1
+8 hello 1 1 1 a zone=z1,
+8 hello 1 1 1 a zone=z1=z2
+8 hello 1 1 1 a zone=z1,zone=z2
+8 hello 1 1 1 a a=1,b=2,c=3,d=4,e=5
+0 hello 1 1 1 a kkkkkkkkkkkkkkkkkkkkkkkkkkkkkkkk=vvvvvvvvvvvvvvvvvvvvvvvvvvvvvvvv
+8 hello 1 1 1 a kkkkkkkkkkkkkkkkkkkkkkkkkkkkkkkkk=v
+8 hello 1 1 1 a k=vvvvvvvvvvvvvvvvvvvvvvvvvvvvvvvvv
+4 hello
+4 hello x x x
+5 hello 1 1 1 a zone=z1 x
+5 hello x x x x x x
+0 alive 1 1 0
+4 alive 1 1
+5 alive 1 1 0 0
+6 alive 1 1 a
+7 alive 0 1 x
+0 beat 1 1 1000 7 - - 1 1 11 11:1:v,12:2:v,13:3:v
+0 beat 1 1 1000 7 - 40 1 6 11 -
+0 beat 1 1 1000 7 7480 74fF 0 0 11 11:1:l,11:1:v down=11:0
+0 beat 1 1 1000 7 - - 1 1 11 11:1:v pending=11
+0 beat 1 1 1000 7 - - 1 1 11 11:1:v down=11:4294967295,12:0 pending=11,12
+0 beat 1 1 1 7 - - 9223372036854775807 9223372036854775807 9223372036854775807 -
+4 beat 1 1 1 7 - - 1 1 11
+4 beat x
+5 beat 1 1 1 7 - - 1 1 11 - down=1:1 pending=1 x
+7 beat 1 1 1 0 x - 1 1 11 -
+7 beat 1 1 1 9223372036854775808 - - 1 1 11 -
+8 beat 1 1 1 7 6 - x 1 11 -
+8 beat 1 1 1 7 - 0x61 1 1 11 -
+7 beat 1 1 1 7 - - 9223372036854775808 1 11 -
+6 beat 1 1 1 7 - - 1 v 11 -
+7 beat 1 1 1 7 - - 1 1 0 -
+6 beat 1 1 1 7 - - 1 1 11 x:1
+6 beat 1 1 1 7 - - 1 1 11 11;1:v
+7 beat 1 1 1 7 - - 1 1 11 0:1
+8 beat 1 1 1 7 - - 1 1 11 11,1,v
+8 beat 1 1 1 7 - - 1 1 11 11:1
+8 beat 1 1 1 7 - - 1 1 11 11
+8 beat 1 1 1 7 - - 1 1 11 11:1:v:
+8 beat 1 1 1 7 - - 1 1 11 11:1:i
+8 beat 1 1 1 7 - - 1 1 11 11:1:
+7 beat 1 1 1 7 - - 1 1 11 11:0:v
+6 beat 1 1 1 7 - - 1 1 11 11:1:v,
+6 beat 1 1 1 7 - - 1 1 11 ::v
+6 beat 1 1 1 7 - - 1 1 11 --
+8 beat 1 1 1 7 - - 1 1 11 - pending=11:12
+6 beat 1 1 1 7 - - 1 1 11 - pending=11;12
+6 beat 1 1 1 7 - - 1 1 11 - pending=
+6 beat 1 1 1 7 - - 1 1 11 - down=
+8 beat 1 1 1 7 - - 1 1 11 - down=1
+8 beat 1 1 1 7 - - 1 1 11 - down=1,1
+7 beat 1 1 1 7 - - 1 1 11 - down=1:4294967296
+8 beat 1 1 1 7 - - 1 1 11 - pending=0 down=1:1
+8 beat 1 1 1 7 - - 1 1 11 - down=1:1 down=1:1
+8 beat 1 1 1 7 - - 1 1 11 - x=1
 3 run
 3 Lead 1 1
 3 lea 1 1

@@ -1,17 +1,39 @@
-use Rattle.std.proofs.Common.{◌<◌, List, length, subst, ◌∙◌}
+use Rattle.std.specs.Prelude.{string_bytes}
+use Rattle.pd_cluster.specs.Replay.{State, answers_from, answers_of, answers_text, opening_cell, start}
+use Rattle.std.proofs.Common.{◌≡◌, ◌++◌, ℕ, List, ap, sym, subst, ◌∙◌}
+use Rattle.std.proofs.lemmas.List.Elements.{All-head, All-rest, All-same}
+use Rattle.std.specs.Vec.Iter.{into_iter_items}
+use Rattle.tso_model.specs.declared.view.Setup.{Setup}
+use Rattle.pd_script.specs.Lawful.{IsLawful}
 use Rattle.pd_script.specs.declared.act.Line.{Line}
 use Rattle.pd_script.specs.declared.script.Mode.TheVariants.{Replay}
+use Rattle.pd_cluster.specs.Clusters.{state_of}
 use Rattle.pd_cluster.proofs.Histories.{all_asked, text_more}
+use Rattle.pd_cluster.proofs.Serving.{is_start}
 use Rattle.pd_cluster.proofs.replay.replay_script.Goals as goal
 
-pub append-requires : goal.append-requires
-append-requires c = record {
-  lawful = rw (c.loop-line.invariant.1, c.as_slice-lines.ensures.value)
-      (all_asked Replay c.args.script.now c.requires.lawful c.loop-line.line-index _ (subst (λ (l : List Line). c.loop-line.line-index < length l) c.as_slice-lines.ensures.value c.loop-line-test.true));
-}
+pub loop-line-init : goal.loop-line-init
+loop-line-init c =
+    let items : into_iter_items c.into_iter-line-iterator.result ≡ c.args.script.lines = c.into_iter-line-iterator.ensures.into_iter_gives.0 ∙ c.into_vec-line-items.ensures.value in
+    let began : state_of c.in_ok-replay.replay ≡ start c.args.script = is_start c.args.script (state_of c.in_ok-replay.replay) c.opening_cell-cell.result c.in_ok-replay.ensures.value (c.opening_cell-cell.ensures.value ∙ ap opening_cell c.as_slice.ensures.value) in
+    record {
+      text = ap (λ (bs : List ℕ). bs ++ answers_text (answers_from (state_of c.in_ok-replay.replay) (into_iter_items c.into_iter-line-iterator.result))) c.new-text.ensures.bytes
+          ∙ ap (λ (s : State). answers_text (answers_from s (into_iter_items c.into_iter-line-iterator.result))) began ∙ ap (λ (ls : List Line). answers_text (answers_from (start c.args.script) ls)) items;
+      setup = ap (λ (s : State). s.oracle.setup) began;
+      ready = c.in_ok-replay.ensures.ready;
+      lawful = All-same (λ (line : Line). IsLawful c.args.script.drivers c.args.script.clients line.act) _ _ items (all_asked Replay c.args.script c.requires.lawful);
+    }
+
+pub append-requires-clause-lawful : goal.append-requires-clause-lawful
+append-requires-clause-lawful c = subst (λ (k : Setup). IsLawful k.drivers k.clients c.in-Some.line.act) (sym c.loop-line.invariant.setup)
+    (All-head (λ (line : Line). IsLawful c.args.script.drivers c.args.script.clients line.act) c.in-Some.line (into_iter_items c.next.new.self)
+    (All-same (λ (line : Line). IsLawful c.args.script.drivers c.args.script.clients line.act) _ _ (sym c.in-Some.ensures.steps.0) c.loop-line.invariant.lawful))
 
 pub loop-line-preserved : goal.loop-line-preserved
-loop-line-preserved c = (
-  text_more c.loop-line.core _ c.as_slice-lines.result.now c.loop-line.line-index _ _ _ _ c.loop-line-test.true c.in_ok-append.ensures.after c.in_ok-append.ensures.text c.loop-line.invariant.0,
-  c.append.ensures.setup ∙ c.loop-line.invariant.1,
-)
+loop-line-preserved c = record {
+  text = text_more (state_of c.loop-line.replay) (state_of c.append.new.replay) c.in-Some.line (into_iter_items c.next.new.self) _ _ _ c.in_ok-append.ensures.after c.in_ok-append.ensures.text
+      (subst (λ (ls : List Line). string_bytes c.loop-line.text ++ answers_text (answers_from (state_of c.loop-line.replay) ls) ≡ answers_text (answers_of c.args.script)) c.in-Some.ensures.steps.0 c.loop-line.invariant.text);
+  setup = c.append.ensures.setup ∙ c.loop-line.invariant.setup;
+  ready = c.in_ok-append.ensures.ready;
+  lawful = All-rest (λ (line : Line). IsLawful c.args.script.drivers c.args.script.clients line.act) _ _ _ c.in-Some.ensures.steps.0 c.loop-line.invariant.lawful;
+}

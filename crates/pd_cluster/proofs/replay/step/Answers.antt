@@ -1,7 +1,19 @@
 use Rattle.pd_cluster.proofs.replay.step.Goals as goal
 
+pub returns-in-Tick-clause-reply : goal.returns-in-Tick-clause-reply
+returns-in-Tick-clause-reply c = rw (c.in-Tick.is) (c.tick.ensures.reply)
+
+pub returns-in-Tick-clause-after : goal.returns-in-Tick-clause-after
+returns-in-Tick-clause-after c = rw (c.in-Tick.is) (c.tick.ensures.after)
+
 pub returns-in-Resign-clause-reply : goal.returns-in-Resign-clause-reply
 returns-in-Resign-clause-reply c = rw (c.in-Resign.is) (c.resign.ensures.reply)
+
+pub returns-in-Take-clause-reply : goal.returns-in-Take-clause-reply
+returns-in-Take-clause-reply c = rw (c.in-Take.is) (c.take.ensures.reply)
+
+pub returns-in-Take-clause-after : goal.returns-in-Take-clause-after
+returns-in-Take-clause-after c = rw (c.in-Take.is) (c.take.ensures.after)
 
 pub returns-in-Tell-clause-reply : goal.returns-in-Tell-clause-reply
 returns-in-Tell-clause-reply c = rw (c.in-Tell.is) (c.tell.ensures.reply)

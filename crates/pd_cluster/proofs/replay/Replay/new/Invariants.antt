@@ -1,0 +1,12 @@
+use Rattle.std.proofs.Common.{◌≡◌, [], length, replicate}
+use Rattle.std.specs.Prelude.{None}
+use Rattle.pd_cluster.specs.Clusters.{AreAlive, journals_of}
+use Rattle.pd_cluster.proofs.replay.Replay.new.Given as goal
+
+abbrev pub invariant-loop-driver : goal.invariant-loop-driver
+invariant-loop-driver l = record {
+  leads : l.leads.items ≡ replicate l.driver None;
+  journals : journals_of l.clusters.items ≡ replicate l.driver [];
+  alive : AreAlive l.clusters.items;
+  len : length l.clusters.items ≡ l.driver;
+}

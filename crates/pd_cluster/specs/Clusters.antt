@@ -1,0 +1,28 @@
+-- What the replay in memory means.
+use Rattle.std.specs.Prelude.{◌≡◌, ◌+◌, List, length, map, reverse, false, All}
+use Rattle.pd_state.specs.Clusters.{ClusterValue}
+use Rattle.pd_state.specs.declared.entry.Entry.{Entry}
+use Rattle.pd_cluster.specs.declared.replay.Replay.{Replay}
+use Rattle.pd_cluster.specs.Replay.{State}
+
+-- what a cluster was asked and replied, the latest first
+abbrev pub past_of : ClusterValue → List Entry
+past_of cluster = reverse cluster.entries
+
+-- the journals of the clusters
+abbrev pub journals_of : List ClusterValue → List (List Entry)
+journals_of clusters = map past_of clusters
+
+-- the state
+abbrev pub state_of : Replay → State
+state_of replay = record { oracle = replay.core; leads = replay.leads.items; journals = journals_of replay.clusters.items }
+
+-- want of memory ended none of the clusters
+abbrev pub AreAlive : List ClusterValue → Type 0
+AreAlive clusters = All (λ cluster. cluster.dead ≡ false) clusters
+
+-- there is a place for each driver and one before them, and each cluster lives
+pub record IsReady (replay : Replay) : Type 0 where
+  pub leads : length replay.leads.items ≡ replay.core.setup.drivers + 1
+  pub clusters : length replay.clusters.items ≡ replay.core.setup.drivers + 1
+  pub alive : AreAlive replay.clusters.items

@@ -1,0 +1,97 @@
+ghost use Rattle.std.specs.Prelude.{◌≡◌};
+ghost use Rattle.pd_cluster.specs.Replay.{asked_besides, driver_of, lead_after, moment_of, published_term, with_term};
+
+use pd_script::Act;
+use pd_types::Request;
+use tso_core::Reply;
+
+/// How far a driver's lead by single steps is: the moment of its `read` line, in milliseconds since
+/// the epoch, and the term that it claimed, 0 before that.
+#[derive(Clone, Copy, Debug, PartialEq, Eq)]
+pub struct BegunLead {
+    pub moment: u64,
+    pub term: u64,
+}
+
+/// The driver that acts in a line, 0 where none does.
+pub fn driver_of(act: &Act) -> u8
+    ensures value { result ≡ driver_of act.now }
+{
+    match act {
+        Act::Lead { driver, .. } | Act::Tick { driver, .. } | Act::Resign { driver } => *driver,
+        Act::Read { driver, .. } | Act::Campaign { driver } | Act::Save { driver } => *driver,
+        Act::Raise { driver } | Act::Publish { driver } | Act::Probe { driver, .. } => *driver,
+        Act::Cell { .. } | Act::Take { .. } | Act::Tell { .. } | Act::Hear { .. } => 0,
+        Act::Look { .. } | Act::Arm { .. } | Act::Draw { .. } | Act::Ask { .. } => 0,
+    }
+}
+
+/// The moment of a line that begins a lead or is one, else 0.
+pub fn moment_of(act: &Act) -> u64
+    ensures value { result ≡ moment_of act.now }
+{
+    match act {
+        Act::Lead { now, .. } | Act::Read { now, .. } => *now,
+        _ => 0,
+    }
+}
+
+fn with_term(term: u64, lead: Option<BegunLead>) -> Option<BegunLead>
+    ensures value { result ≡ with_term term lead }
+{
+    match lead {
+        None => None,
+        Some(lead) => Some(BegunLead {
+            moment: lead.moment,
+            term,
+        }),
+    }
+}
+
+/// How far the lead is after an answer to a line at this moment.
+pub fn lead_after(act: &Act, reply: Reply, lead: Option<BegunLead>) -> Option<BegunLead>
+    ensures value { result ≡ lead_after act.now reply lead }
+{
+    match reply {
+        Reply::CellRead { .. } => Some(BegunLead {
+            moment: moment_of(act),
+            term: 0,
+        }),
+        Reply::Claimed { term } => with_term(term, lead),
+        Reply::Probed { .. } | Reply::Published { .. } => None,
+        _ => lead,
+    }
+}
+
+fn published_term(hi: u64, lead: Option<BegunLead>) -> Option<Request>
+    ensures value { result ≡ published_term hi lead }
+{
+    match lead {
+        None => None,
+        Some(lead) => {
+            if hi == 0 {
+                None
+            } else {
+                Some(Request::Term {
+                    term: lead.term,
+                    moment: lead.moment,
+                })
+            }
+        }
+    }
+}
+
+/// What the driver's cluster is asked besides, after an answer of the oracle.
+pub fn asked_besides(act: &Act, reply: Reply, lead: Option<BegunLead>) -> Option<Request>
+    ensures value { result ≡ asked_besides act.now reply lead }
+{
+    match reply {
+        Reply::Won { term, .. } => Some(Request::Term {
+            term,
+            moment: moment_of(act),
+        }),
+        Reply::Published { hi } => published_term(hi, lead),
+        Reply::Lost { .. } | Reply::Resigned => Some(Request::Retire),
+        _ => None,
+    }
+}

@@ -1,0 +1,156 @@
+-- The words that aren't numbers: addresses, labels, keys, and lists of peers (own choice).
+use Rattle.std.specs.Prelude.{ℕ, List, [], ◌∷◌, ◌++◌, codes, length, take, drop, Bool, false, nat_eq, nat_lt, nat_le, ◌&&◌, ◌||◌, not, Option, Some, None, Result, Ok, Err, if◌then◌else◌}
+use Rattle.std.specs.Char.{is_ascii_alphanumeric}
+use Rattle.std.specs.List.{list_all, list_any, slice_split}
+use Rattle.std.specs.Str.{bytes_eq}
+use Rattle.pd_types.specs.declared.region.DownPeer.{DownPeer}
+use Rattle.pd_types.specs.declared.region.Peer.{Peer}
+use Rattle.pd_types.specs.declared.region.Role.{Role}
+use Rattle.pd_types.specs.declared.region.Role.TheVariants.{Voter, Learner}
+use Rattle.pd_types.specs.declared.store.Label.{Label}
+use Rattle.pd_lines.specs.Keys.{key_of}
+use Rattle.pd_script.specs.Places.{read_place}
+use Rattle.pd_script.specs.declared.place.Place.{Place}
+use Rattle.pd_script.specs.declared.place.Place.TheVariants.{Id, Seconds}
+use Rattle.pd_script.specs.declared.refusal.Reason.{Reason}
+use Rattle.pd_script.specs.declared.refusal.Reason.TheVariants.{BadWord}
+
+-- what is read next with a value; a reason stays
+abbrev pub and_then : {A B : Type 0} → Result A Reason → (A → Result B Reason) → Result B Reason
+and_then (Ok value) next = next value
+and_then (Err reason) next = Err reason
+
+-- one of `A-Z a-z 0-9 . _ : / -`
+abbrev pub is_plain_byte : ℕ → Bool
+is_plain_byte b = is_ascii_alphanumeric b || nat_eq b 46 || nat_eq b 95 || nat_eq b 58 || nat_eq b 47 || nat_eq b 45
+
+-- one to so many of them
+abbrev pub is_plain : ℕ → List ℕ → Bool
+is_plain most word = nat_lt 0 (length word) && nat_le (length word) most && list_all is_plain_byte word
+
+-- an address: 1 to 64 plain characters
+abbrev pub address_of : List ℕ → Result (List ℕ) Reason
+address_of word = if is_plain 64 word then Ok word else Err BadWord
+
+-- a key and a value, each of 1 to 32 plain characters
+abbrev pub label_by : List (List ℕ) → Result Label Reason
+label_by (key ∷ value ∷ []) = if is_plain 32 key && is_plain 32 value then Ok (record { key = key; value = value }) else Err BadWord
+label_by _ = Err BadWord
+
+-- a label: `key=value`
+abbrev pub label_of : List ℕ → Result Label Reason
+label_of part = label_by (slice_split (λ b. nat_eq b 61) part)
+
+-- one of the labels has this key
+abbrev pub has_key : List ℕ → List Label → Bool
+has_key key labels = list_any (λ label. bytes_eq label.key key) labels
+
+-- a label behind others: there are fewer than four, and none has its key
+abbrev pub with_label : List Label → Label → Result (List Label) Reason
+with_label earlier label = if nat_lt (length earlier) 4 && not (has_key label.key earlier) then Ok (earlier ++ label ∷ []) else Err BadWord
+
+-- the labels of these parts, behind those read before
+abbrev pub labels_from : List Label → List (List ℕ) → Result (List Label) Reason
+labels_from earlier [] = Ok earlier
+labels_from earlier (part ∷ parts) = and_then (label_of part) (λ label. and_then (with_label earlier label) (λ labels. labels_from labels parts))
+
+-- one to four labels joined by commas, no key twice
+abbrev pub labels_of : List ℕ → Result (List Label) Reason
+labels_of word = labels_from [] (slice_split (λ b. nat_eq b 44) word)
+
+-- the key, where it is spelled
+abbrev pub key_or : Option (List ℕ) → Result (List ℕ) Reason
+key_or (Some key) = Ok key
+key_or None = Err BadWord
+
+-- a start or an end: `-` for the empty key, or hexadecimal digits
+abbrev pub key_form : List ℕ → Result (List ℕ) Reason
+key_form word = key_or (key_of word)
+
+-- what stands between two separators, and the separator behind it, `:` or `,`, none at the end
+pub record Item : Type 0 where
+  pub text : List ℕ
+  pub behind : Option ℕ
+
+-- `:` or `,`
+abbrev pub is_separator : ℕ → Bool
+is_separator b = nat_eq b 58 || nat_eq b 44
+
+-- the items of a word; this one so far
+abbrev pub items_from : List ℕ → List ℕ → List Item
+items_from item [] = record { text = item; behind = None } ∷ []
+items_from item (b ∷ bs) = if is_separator b then record { text = item; behind = Some b } ∷ items_from [] bs else items_from (item ++ b ∷ []) bs
+
+-- the items of a word
+abbrev pub items_of : List ℕ → List Item
+items_of word = items_from [] word
+
+-- the separator is `:`
+abbrev pub is_colon : Option ℕ → Bool
+is_colon None = false
+is_colon (Some b) = nat_eq b 58
+
+-- a number with `:` behind it
+abbrev pub before_colon : Place → Item → Result ℕ Reason
+before_colon place item = and_then (read_place place item.text) (λ n. if is_colon item.behind then Ok n else Err BadWord)
+
+-- the items behind one: none at the end of the word
+abbrev pub items_behind : Option ℕ → List ℕ → List Item
+items_behind None rest = []
+items_behind (Some b) rest = items_of rest
+
+-- a list goes on behind `,` or ends; behind its elements there is no `:`
+abbrev pub unless_colon : {A : Type 0} → Option ℕ → Result (List A) Reason → Result (List A) Reason
+unless_colon behind rest = if is_colon behind then Err BadWord else rest
+
+-- an element in front of the rest
+abbrev pub in_front : {A : Type 0} → A → Result (List A) Reason → Result (List A) Reason
+in_front a (Ok rest) = Ok (a ∷ rest)
+in_front a (Err reason) = Err reason
+
+-- elements in front of the rest
+abbrev pub all_in_front : {A : Type 0} → List A → Result (List A) Reason → Result (List A) Reason
+all_in_front front (Ok rest) = Ok (front ++ rest)
+all_in_front front (Err reason) = Err reason
+
+-- `v` or `l`
+abbrev pub role_of : List ℕ → Result Role Reason
+role_of word = if bytes_eq word (codes "v") then Ok Voter else if bytes_eq word (codes "l") then Ok Learner else Err BadWord
+
+-- `id:store:role`
+abbrev pub peer_of : Item → Item → Item → Result Peer Reason
+peer_of id store role = and_then (before_colon Id id) (λ i. and_then (before_colon Id store) (λ s. and_then (role_of role.text) (λ r. Ok (record { id = i; store = s; role = r }))))
+
+-- peers joined by commas, from left to right; a peer that ends early has no `:` or no role
+abbrev pub peers_from : List Item → Result (List Peer) Reason
+peers_from [] = Ok []
+peers_from (id ∷ []) = and_then (before_colon Id id) (λ i. Err BadWord)
+peers_from (id ∷ store ∷ []) = and_then (before_colon Id id) (λ i. and_then (before_colon Id store) (λ s. Err BadWord))
+peers_from (id ∷ store ∷ role ∷ items) = and_then (peer_of id store role) (λ peer. in_front peer (unless_colon role.behind (peers_from items)))
+
+-- the peers of a region; `-` is the empty list
+abbrev pub peers_of : List ℕ → Result (List Peer) Reason
+peers_of word = if bytes_eq word (codes "-") then Ok [] else peers_from (items_of word)
+
+-- `peer:seconds`
+abbrev pub down_of : Item → Item → Result DownPeer Reason
+down_of peer seconds = and_then (before_colon Id peer) (λ p. and_then (read_place Seconds seconds.text) (λ s. Ok (record { peer = p; seconds = s })))
+
+-- down peers joined by commas
+abbrev pub downs_from : List Item → Result (List DownPeer) Reason
+downs_from [] = Ok []
+downs_from (peer ∷ []) = and_then (before_colon Id peer) (λ p. Err BadWord)
+downs_from (peer ∷ seconds ∷ items) = and_then (down_of peer seconds) (λ down. in_front down (unless_colon seconds.behind (downs_from items)))
+
+-- peer ids joined by commas
+abbrev pub ids_from : List Item → Result (List ℕ) Reason
+ids_from [] = Ok []
+ids_from (id ∷ items) = and_then (read_place Id id.text) (λ n. in_front n (unless_colon id.behind (ids_from items)))
+
+-- `down=peer:seconds,..`
+abbrev pub downs_of : List ℕ → Result (List DownPeer) Reason
+downs_of word = if bytes_eq (take 5 word) (codes "down=") then downs_from (items_of (drop 5 word)) else Err BadWord
+
+-- `pending=peer,..`
+abbrev pub pending_of : List ℕ → Result (List ℕ) Reason
+pending_of word = if bytes_eq (take 8 word) (codes "pending=") then ids_from (items_of (drop 8 word)) else Err BadWord
