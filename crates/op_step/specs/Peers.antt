@@ -1,26 +1,11 @@
 -- What a heartbeat says of a region's peers (kvproto, `metapb.Peer` and `pdpb.RegionHeartbeatRequest`).
 use Rattle.std.specs.Prelude.{ℕ, Bool, true, false, ◌&&◌, not, ◌==◌, List, Option, find}
 use Rattle.std.specs.List.{list_any}
-use Rattle.pd_types.specs.declared.region.Role.{Role}
-use Rattle.pd_types.specs.declared.region.Role.TheVariants as roles
+use Rattle.pd_types.specs.BeatCheck.{has_id as is_id_among, has_store as is_store_among}
 use Rattle.pd_types.specs.declared.region.Peer.{Peer}
 use Rattle.pd_types.specs.declared.region.RegionBeat.{RegionBeat}
 use Rattle.store_table.specs.declared.entry.StoreEntry.{StoreEntry}
 use Rattle.store_table.specs.Entries.{is_live}
-
--- a peer of this role has a vote
-abbrev pub is_voting : Role → Bool
-is_voting roles.Voter = true
-is_voting roles.Learner = false
-is_voting roles.Incoming = false
-is_voting roles.Demoting = false
-
--- a peer of this role takes the log and has no vote
-abbrev pub is_learning : Role → Bool
-is_learning roles.Voter = false
-is_learning roles.Learner = true
-is_learning roles.Incoming = false
-is_learning roles.Demoting = false
 
 -- the peer of this id on this store
 abbrev pub is_peer : ℕ → ℕ → Peer → Bool
@@ -32,11 +17,11 @@ has_peer id store beat = list_any (is_peer id store) beat.region.peers
 
 -- the region has a peer on the store
 abbrev pub has_store : ℕ → RegionBeat → Bool
-has_store store beat = list_any (λ peer. peer.store == store) beat.region.peers
+has_store store beat = is_store_among beat.region.peers store
 
 -- the region has a peer of this id
 abbrev pub has_id : ℕ → RegionBeat → Bool
-has_id id beat = list_any (λ peer. peer.id == id) beat.region.peers
+has_id id beat = is_id_among beat.region.peers id
 
 -- the region's peer on the store
 abbrev pub peer_on : ℕ → RegionBeat → Option Peer

@@ -9,7 +9,8 @@ use Rattle.store_table.specs.Entries.{is_live}
 use Rattle.op_step.specs.declared.safety.Held.{Held}
 use Rattle.op_step.specs.declared.safety.Why.{Why}
 use Rattle.op_step.specs.declared.safety.Why.TheVariants as why
-use Rattle.op_step.specs.Peers.{has_id, has_peer, has_store, is_learning, is_peer, is_pending, is_target}
+use Rattle.pd_types.specs.Roles.{is_learner}
+use Rattle.op_step.specs.Peers.{has_id, has_peer, has_store, is_peer, is_pending, is_target}
 use Rattle.op_step.specs.Votes.{is_voter, live_of, voters_of, HasMajority}
 use Rattle.op_step.specs.After.{after}
 
@@ -18,7 +19,7 @@ use Rattle.op_step.specs.After.{after}
 abbrev pub is_right : Step → RegionBeat → List StoreEntry → ℕ → Bool
 is_right (AddLearner id store) beat stores now = (not (has_id id beat) && not (has_store store beat)) || has_peer id store beat
 is_right (PromoteLearner id store) beat stores now =
-    list_any (λ peer. is_peer id store peer && is_learning peer.role && is_live peer.store now stores && not (is_pending beat peer.id)) beat.region.peers
+    list_any (λ peer. is_peer id store peer && is_learner peer.role && is_live peer.store now stores && not (is_pending beat peer.id)) beat.region.peers
 is_right (TransferLeader id store) beat stores now =
     list_any (λ peer. is_peer id store peer && is_voter peer && is_target beat stores now peer) beat.region.peers
 is_right (RemovePeer id store) beat stores now = has_peer id store beat && not (beat.leader == id)

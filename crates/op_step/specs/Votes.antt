@@ -4,11 +4,12 @@ use Rattle.pd_types.specs.declared.region.Peer.{Peer}
 use Rattle.pd_types.specs.declared.region.RegionBeat.{RegionBeat}
 use Rattle.store_table.specs.declared.entry.StoreEntry.{StoreEntry}
 use Rattle.store_table.specs.Entries.{is_live}
-use Rattle.op_step.specs.Peers.{is_down, is_voting}
+use Rattle.pd_types.specs.Roles.{is_voter as has_vote}
+use Rattle.op_step.specs.Peers.{is_down}
 
 -- the peer's role is Voter
 abbrev pub is_voter : Peer → Bool
-is_voter peer = is_voting peer.role
+is_voter peer = has_vote peer.role
 
 -- the voter is on a live store, and isn't down
 abbrev pub is_live_voter : RegionBeat → List StoreEntry → ℕ → Peer → Bool

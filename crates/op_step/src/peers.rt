@@ -1,7 +1,8 @@
 // Tests on the peers of a region, as its heartbeat tells them.
 ghost use Rattle.std.specs.Prelude.{◌≡◌};
 ghost use Rattle.std.specs.Option.{option_copied};
-ghost use Rattle.op_step.specs.Peers.{has_id, has_peer, has_store, is_down, is_learning, is_peer, is_pending, is_target, peer_on};
+ghost use Rattle.pd_types.specs.Roles.{is_learner};
+ghost use Rattle.op_step.specs.Peers.{has_id, has_peer, has_store, is_down, is_peer, is_pending, is_target, peer_on};
 ghost use Rattle.op_step.specs.Votes.{is_live_voter, is_voter};
 
 use pd_types::{Peer, RegionBeat, Role};
@@ -19,7 +20,7 @@ pub fn is_voter(peer: &Peer) -> bool
 
 /// Whether the peer takes the log and has no vote.
 pub fn is_learner(peer: &Peer) -> bool
-    ensures { result ≡ is_learning peer.now.role }
+    ensures { result ≡ is_learner peer.now.role }
 {
     match peer.role {
         Role::Learner => true,

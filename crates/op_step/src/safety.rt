@@ -1,7 +1,8 @@
 // The gate that each step passes before it is sent.
 ghost use Rattle.std.specs.Prelude.{◌≡◌, ◌↔◌, IsOk, IsErrOf, IsTrue};
 ghost use Rattle.op_step.specs.After.{after};
-ghost use Rattle.op_step.specs.Peers.{is_learning, is_peer, is_pending, is_target};
+ghost use Rattle.pd_types.specs.Roles.{is_learner};
+ghost use Rattle.op_step.specs.Peers.{is_peer, is_pending, is_target};
 ghost use Rattle.op_step.specs.Safe.{gate_of, held_with, is_right, IsSafe};
 ghost use Rattle.op_step.specs.Votes.{is_voter, HasMajority, LacksMajority};
 ghost use Rattle.op_step.specs.declared.safety.Why.TheVariants as why;

@@ -213,7 +213,12 @@ fn the_first_fault_of_a_wish_is_named(rt: HostRuntime) -> Result<(), Fail> {
     let alloc = rt.alloc();
     let beat = region(
         alloc,
-        &[(11, 1, VOTER), (12, 2, LEARNER), (13, 3, VOTER)],
+        &[
+            (11, 1, LEARNER),
+            (12, 2, LEARNER),
+            (13, 3, VOTER),
+            (14, 4, VOTER),
+        ],
         &[13],
     )?;
     let stores = table(

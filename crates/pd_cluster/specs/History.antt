@@ -34,7 +34,7 @@ abbrev pub batches_of : List Answer → List Batch
 batches_of [] = []
 batches_of (answer ∷ answers) = and_batch (oracle_reply answer.said) (batches_of answers)
 
--- one batch lies below the other: its term isn't later, and its last timestamp is below the other's first
+-- one batch lies below the other: its term isn't later, and its last timestamp is below the other's first, so no timestamp is in both (pd_types, `batches_apart_share_no_timestamp`)
 pub record IsBelow (a b : Batch) : Type 0 where
   pub term : a.term ≤ b.term
   pub rises : a.last < first_of b

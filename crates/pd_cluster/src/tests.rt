@@ -288,6 +288,11 @@ fn the_first_line_at_fault_or_limit_is_named(rt: HostRuntime) -> Result<(), Fail
             Status::Refused,
             "line 2: reason 9\n",
         ),
+        (
+            "lead 1 1000\ncheck 1 1000 7\n",
+            Status::Refused,
+            "line 2: reason 3\n",
+        ),
         ("take 1 8 1\n", Status::Limit, "limit drivers 8\n"),
         ("take 65 1 1\n", Status::Limit, "limit clients 65\n"),
     ];

@@ -8,13 +8,7 @@ use Rattle.pd_types.specs.declared.beat.BeatFault.{BeatFault}
 use Rattle.pd_types.specs.declared.beat.BeatFault.TheVariants.{NoPeers, TooManyPeers, DoublePeer, DoubleStore, LeaderAbsent, LeaderNotVoter, BadRange, LongKey}
 use Rattle.pd_types.specs.declared.region.Peer.{Peer}
 use Rattle.pd_types.specs.declared.region.RegionBeat.{RegionBeat}
-use Rattle.pd_types.specs.declared.region.Role.{Role}
-use Rattle.pd_types.specs.declared.region.Role.TheVariants.{Voter}
-
--- a voter, on neither side of a joint membership
-abbrev pub is_voter : Role → Bool
-is_voter Voter = true
-is_voter _ = false
+use Rattle.pd_types.specs.Roles.{is_voter}
 
 -- some peer has this id
 abbrev pub has_id : List Peer → ℕ → Bool

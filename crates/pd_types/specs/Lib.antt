@@ -1,4 +1,6 @@
 pub mod Batch
 pub mod BeatCheck
+pub mod Bytes
+pub mod Roles
 pub mod StepText
 pub mod Timestamp

@@ -21,7 +21,7 @@ pub use lists::{
     Texts, Windows,
 };
 pub use memory::NoMemory;
-pub use oracle::{Actor, Batch, CellWord, Seen, Window};
+pub use oracle::{Actor, Batch, CellWord, Seen, Window, batches_apart_share_no_timestamp};
 pub use region::{DownPeer, Epoch, Peer, Region, RegionBeat, Role};
 pub use request::Request;
 pub use rule::{Constraint, Op, Rule, RuleRole};

@@ -1,5 +1,8 @@
-ghost use Rattle.std.specs.Prelude.{◌≡◌, ◌<◌, ◌≤◌};
-ghost use Rattle.pd_types.specs.Batch.{first_of};
+ghost use Rattle.std.specs.Prelude.{◌≡◌, ◌<◌, ◌≤◌, ℕ};
+ghost use Rattle.pd_types.specs.Batch.{first_of, Holds};
+
+use crate::{Duplicate, NoMemory};
+use std::alloc::Global;
 
 /// A batch of timestamps (pdpb `TsoResponse`): the `count` numbers that end with `last`, drawn in
 /// `term` at `driver`. A batch that was granted has a count from 1 to its last.
@@ -56,3 +59,32 @@ pub enum Actor {
     Client(u8),
     Store(u64),
 }
+
+impl Duplicate for Batch {
+    fn copy(&self, _alloc: Global) -> Result<Batch, NoMemory> {
+        Ok(*self)
+    }
+}
+
+impl Duplicate for CellWord {
+    fn copy(&self, _alloc: Global) -> Result<CellWord, NoMemory> {
+        Ok(*self)
+    }
+}
+
+impl Duplicate for Window {
+    fn copy(&self, _alloc: Global) -> Result<Window, NoMemory> {
+        Ok(*self)
+    }
+}
+
+impl Duplicate for Seen {
+    fn copy(&self, _alloc: Global) -> Result<Seen, NoMemory> {
+        Ok(*self)
+    }
+}
+
+/// Where one batch ends before another begins, no timestamp is in both.
+pub fn batches_apart_share_no_timestamp()
+    ensures apart { (a b : Batch) (ts : ℕ) → a.last < first_of b → Holds a ts → Holds b ts → ⊥ }
+{}

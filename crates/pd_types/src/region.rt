@@ -66,6 +66,12 @@ impl Duplicate for DownPeer {
     }
 }
 
+impl Duplicate for Epoch {
+    fn copy(&self, _alloc: Global) -> Result<Epoch, NoMemory> {
+        Ok(*self)
+    }
+}
+
 impl Duplicate for Region {
     fn copy(&self, alloc: Global) -> Result<Region, NoMemory> {
         Ok(Region {

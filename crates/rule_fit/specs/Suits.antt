@@ -10,9 +10,10 @@ use Rattle.pd_types.specs.declared.rule.RuleRole.{RuleRole}
 use Rattle.pd_types.specs.declared.rule.RuleRole.TheVariants as asks
 use Rattle.pd_types.specs.declared.rule.Rule.{Rule}
 use Rattle.pd_types.specs.declared.region.Role.{Role}
-use Rattle.pd_types.specs.declared.region.Role.TheVariants as roles
 use Rattle.pd_types.specs.declared.region.Peer.{Peer}
 use Rattle.pd_types.specs.declared.region.RegionBeat.{RegionBeat}
+use Rattle.pd_types.specs.Bytes.{is_empty}
+use Rattle.pd_types.specs.Roles.{is_voter, is_learner}
 use Rattle.store_table.specs.declared.entry.StoreEntry.{StoreEntry}
 use Rattle.store_table.specs.Entries.{entry_at, is_usable}
 
@@ -20,11 +21,6 @@ use Rattle.store_table.specs.Entries.{entry_at, is_usable}
 abbrev pub value_of : List ℕ → List Label → List ℕ
 value_of key [] = []
 value_of key (label ∷ labels) = if pointwise nat_eq label.key key then label.value else value_of key labels
-
--- there are no bytes
-abbrev pub is_empty : List ℕ → Bool
-is_empty [] = true
-is_empty (byte ∷ bytes) = false
 
 -- the value is one of these
 abbrev pub is_among : List ℕ → List (List ℕ) → Bool
@@ -57,20 +53,6 @@ labels_of store stores = labels_in (entry_at store stores)
 -- the store is usable and satisfies all constraints of the rule
 abbrev pub store_suits : List StoreEntry → ℕ → ℕ → Rule → Bool
 store_suits stores now store rule = is_usable store now stores && satisfies_all (labels_of store stores) rule.constraints
-
--- the role is Voter
-abbrev pub is_voter : Role → Bool
-is_voter roles.Voter = true
-is_voter roles.Learner = false
-is_voter roles.Incoming = false
-is_voter roles.Demoting = false
-
--- the role is Learner
-abbrev pub is_learner : Role → Bool
-is_learner roles.Voter = false
-is_learner roles.Learner = true
-is_learner roles.Incoming = false
-is_learner roles.Demoting = false
 
 -- a voter rule needs a Voter, a leader rule the leader, a follower rule a Voter that doesn't lead, a learner rule a Learner
 abbrev pub role_suits : RuleRole → Role → Bool → Bool

@@ -55,8 +55,8 @@ fn fit_rules(
 
 /// Whether each peer of the region can be given one rule that it suits so that each rule has exactly
 /// its count of peers; an assignment that gives the most peers a rule; and a certificate where there
-/// is no fit. A region without rules never fits. It may be called with at most 15 peers, no two with
-/// one id, and at most 64 rules.
+/// is no fit. A region that has peers never fits without rules. It may be called with at most 15
+/// peers, no two with one id, and at most 64 rules.
 pub fn fit(
     alloc: Global,
     beat: &RegionBeat,

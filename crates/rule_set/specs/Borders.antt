@@ -4,8 +4,8 @@ use Rattle.std.specs.Cmp.Lexicographic.{pointwise}
 use Rattle.std.specs.Ordering.{is_lt}
 use Rattle.pd_types.specs.declared.rule.Rule.{Rule}
 use Rattle.pd_types.specs.declared.region.Region.{Region}
+use Rattle.pd_types.specs.Bytes.{is_empty}
 use Rattle.rule_set.specs.Order.{bytes_order}
-use Rattle.rule_set.specs.InForce.{is_empty}
 
 -- the key lies inside the region's range and isn't its start
 abbrev pub strictly_inside : Region → List ℕ → Bool

@@ -4,12 +4,8 @@ use Rattle.std.specs.List.{list_any}
 use Rattle.std.specs.Ordering.{is_lt}
 use Rattle.std.specs.Cmp.Lexicographic.{pointwise}
 use Rattle.pd_types.specs.declared.rule.Rule.{Rule}
+use Rattle.pd_types.specs.Bytes.{is_empty}
 use Rattle.rule_set.specs.Order.{bytes_order}
-
--- there are no bytes
-abbrev pub is_empty : List ℕ → Bool
-is_empty [] = true
-is_empty (byte ∷ bytes) = false
 
 -- the key is in the range from a start up to an end; an empty end has no upper bound
 abbrev pub in_range : List ℕ → List ℕ → List ℕ → Bool

@@ -10,5 +10,4 @@ mod set;
 mod tests;
 
 pub use fault::{RemoveFault, SetFault};
-pub use order::holds;
 pub use set::{MOST_RULES, RuleSet};

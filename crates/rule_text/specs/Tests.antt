@@ -9,6 +9,7 @@ use Rattle.serde_json.specs.Read.{read}
 use Rattle.pd_types.specs.declared.rule.RuleRole.{RuleRole}
 use Rattle.pd_types.specs.declared.rule.RuleRole.TheVariants as roles
 use Rattle.pd_types.specs.declared.rule.Rule.{Rule}
+use Rattle.pd_types.specs.Bytes.{is_empty}
 use Rattle.rule_text.specs.declared.fault.RuleFault.{RuleFault}
 use Rattle.rule_text.specs.declared.fault.RuleFault.TheVariants.{NotJson, NotObject, Missing, WrongKind, BadHex, BadRole, BadOp, BadCount, EmptyRange, IsolationLevel, NoMemory}
 use Rattle.rule_text.specs.Fields.{given, list_in, items_at, text_at, number_at}
@@ -138,11 +139,6 @@ is_count roles.Learner n = nat_le 1 n && nat_le n 15
 -- the count is one that the role allows
 abbrev pub has_count : Data → Bool
 has_count rule = is_count (role_at rule) (number_at (codes "count") rule)
-
--- no bytes
-abbrev pub is_empty : List ℕ → Bool
-is_empty [] = true
-is_empty (byte ∷ bytes) = false
 
 -- the end is empty or above the start
 abbrev pub is_range : List ℕ → List ℕ → Bool

@@ -31,6 +31,7 @@ const FAULTS: &str = r#"1 {
 8 {"group_id":"pd","id":"x","role":"leader","count":2}
 9 {"group_id":"pd","id":"x","role":"voter","count":1,"start_key":"40","end_key":"40"}
 10 {"group_id":"pd","id":"x","role":"voter","count":1,"isolation_level":"zone"}
+10 {"group_id":"pd","id":"x","role":"voter","count":1,"start_key":"40","color":"red","isolation_level":"zone"}
 1 [] {"count":0}
 2 [{"group_id":7}]
 3 {"group_id":"","id":"x","role":"voter","label_constraints":[7,{"key":"zone"}]}

@@ -255,7 +255,7 @@ fn is_drawn(masks: &[u32; 4], counts: &[u32; 4]) -> bool {
     true
 }
 
-// The first masks of one to four peers of which the searches say different things. The peers that
+// The first masks of up to four peers of which the searches say different things. The peers that
 // suit more rules come first, so that they must make room.
 fn first_difference(
     alloc: Global,
@@ -263,7 +263,7 @@ fn first_difference(
     counts: &[u32; 4],
 ) -> Result<Option<[u32; 4]>, Fail> {
     let rules = labelled_rules(alloc, counts)?;
-    for (many, cases) in [(1, 16), (2, 256), (3, 4096), (4, 65536)] {
+    for (many, cases) in [(0, 1), (1, 16), (2, 256), (3, 4096), (4, 65536)] {
         for number in 0..cases {
             let masks = digits(number, 16);
             if is_drawn(&masks, counts) && !agrees(alloc, stores, &rules, counts, &masks, many)? {
@@ -274,13 +274,13 @@ fn first_difference(
     Ok(None)
 }
 
-// Each of the four rules is left out, or has a count of 1 or 2; those with greater counts come first.
+// Each of the four rules is left out, or has a count of 1 to 4; those with greater counts come first.
 #[test]
 fn agrees_with_every_assignment(rt: HostRuntime) -> Result<(), Fail> {
     let alloc = rt.alloc();
     let stores = labelled_stores(alloc)?;
-    for number in 0..81 {
-        let counts = digits(number, 3);
+    for number in 0..625 {
+        let counts = digits(number, 5);
         if !is_falling(&counts) {
             continue;
         }
