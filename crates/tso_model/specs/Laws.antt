@@ -14,7 +14,7 @@ use Rattle.tso_model.specs.History.{History, claims}
 use Rattle.tso_model.specs.Steps.{AtRest, HasHand, hand}
 use Rattle.tso_model.specs.Moves.{gave_driver, new_driver, gave_client, new_client, new_note, joined, spent_view}
 use Rattle.tso_model.specs.Sound.{PartA, PartB, Sound, KeepsEach, IsAbove, IsUnseen}
-use Rattle.tso_model.specs.Ledger.{Recorded, IsWindowList, IsDrawList, back, drawn_by, Gathered, IsRisingBy}
+use Rattle.tso_model.specs.Ledger.{Recorded, IsWindowList, IsDrawList, back, drawn_by, HasAll, Gathered, GathersEach, IsRisingBy}
 
 -- splitting a driver off keeps the rule, by itself and with the lists of the run
 abbrev pub DriverSplitKeeps : Setup → Type 0
@@ -99,6 +99,10 @@ DrawsUnseen k = (words : List ℕ) (views : List View) (h : History) (id : ℕ) 
 -- the batches of a sound state form the draw list of its windows
 abbrev pub DrawnInWindows : Setup → Type 0
 DrawnInWindows k = (words : List ℕ) (views : List View) (h : History) → PartA k words views h → PartB k words views h → IsDrawList (back (h.newest ∷ h.past)) (drawn_by h.drawn (h.newest ∷ h.past))
+
+-- a view that has all numbers has the entries of the whole run, each part's told by the parts up to it
+abbrev pub GathersParts : Setup → Type 0
+GathersParts k = (words : List ℕ) (views : List View) (h : History) (id : ℕ) (v : View) → get_elem? views id ≡ some v → HasAll k v → GathersEach k words views h v
 
 -- lists that rise by a key are equal where they have equal sums
 abbrev pub RisingAreEqual : {A : Type 0} → (A → ℕ) → Type 0

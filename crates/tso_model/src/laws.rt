@@ -12,7 +12,7 @@ ghost use Rattle.tso_model.specs.Steps.{May};
 ghost use Rattle.tso_model.specs.Moves.{first_words, first_view};
 ghost use Rattle.tso_model.specs.Sound.{IsSetup, Sound, Keeps, KeepsParts};
 ghost use Rattle.tso_model.specs.Ledger.{Recorded, KeepsLists, IsWindowList, back, HasAll, Gathered};
-ghost use Rattle.tso_model.specs.Laws.{DriverSplitKeeps, DriverSplitKeepsParts, DriverSplitKeepsLists, ClientSplitKeeps, ClientSplitKeepsParts, ClientSplitKeepsLists, NoteSplitKeeps, NoteSplitKeepsParts, NoteSplitKeepsLists, JoinKeeps, JoinKeepsParts, JoinKeepsLists, CellOnlyRises, BeatenByAnother, LostToAnother, DrawsUnseen, DrawnInWindows, RisingAreEqual, SortedAreWhole};
+ghost use Rattle.tso_model.specs.Laws.{DriverSplitKeeps, DriverSplitKeepsParts, DriverSplitKeepsLists, ClientSplitKeeps, ClientSplitKeepsParts, ClientSplitKeepsLists, NoteSplitKeeps, NoteSplitKeepsParts, NoteSplitKeepsLists, JoinKeeps, JoinKeepsParts, JoinKeepsLists, CellOnlyRises, BeatenByAnother, LostToAnother, DrawsUnseen, DrawnInWindows, GathersParts, RisingAreEqual, SortedAreWhole};
 
 /// Each kind of step keeps the rule from any state that meets it: part A from A alone, B from A and
 /// B, C from all three. And it makes of the windows and batches of the run what is said.
@@ -60,6 +60,7 @@ pub fn the_lists()
     ensures draws { (k : Setup) → DrawnInWindows k }
     ensures gathered { (k : Setup) (words : List ℕ) (views : List View) (id : ℕ) (v : View) →
         Sound k words views → get_elem? views id ≡ some v → HasAll k v → Gathered k v }
+    ensures gathered_parts { (k : Setup) → GathersParts k }
     ensures sorted_windows { RisingAreEqual (λ (c : Claim). c.window.term) }
     ensures sorted_batches { RisingAreEqual (λ (b : Batch). b.last) }
     ensures sorted { (k : Setup) → SortedAreWhole k }
