@@ -17,7 +17,7 @@ use Rattle.tso_core.specs.declared.reply.Due.{Due}
 use Rattle.tso_core.specs.declared.reply.Due.TheVariants.{Rest, Campaign, Save, Raise, Publish}
 use Rattle.tso_core.specs.declared.reply.Reply.TheVariants.{TermsSpent, ClockRange, CellRead, Claimed, Beaten, Saved, Lost, Raised, Published, Probed, Idle, Resigned}
 use Rattle.tso_core.specs.Due.{at_rest}
-use Rattle.tso_core.specs.Plan.{end_of, past_clock, lead_next, tick_next, saves_for}
+use Rattle.tso_model.specs.Plan.{end_of, past_clock, lead_next, tick_next, saves_for}
 use Rattle.tso_core.specs.Whole.{Whole, view_at, turn_at, found_by, made, turned}
 use Rattle.tso_core.specs.declared.decided.Decided.{Decided}
 use Rattle.tso_core.specs.Steps.{read_decides, read_of, campaign_decides, campaign_of, save_decides, its_save, save_of, raise_decides, its_raise, raise_of, its_publish, publish_of, moves_to, goes_to, probe_decides, probe_of, resign_of}

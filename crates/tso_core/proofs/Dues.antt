@@ -9,7 +9,7 @@ use Rattle.tso_model.proofs.Basics.{by_eq}
 use Rattle.tso_core.specs.declared.reply.Due.{Due}
 use Rattle.tso_core.specs.declared.reply.Due.TheVariants.{Rest, Campaign, Save, Raise, Publish, Arm, Draw}
 use Rattle.tso_core.specs.Due.{place_of, same_due}
-use Rattle.tso_core.specs.Plan.{end_of, past_clock, saves_for}
+use Rattle.tso_model.specs.Plan.{end_of, past_clock, saves_for}
 use Rattle.tso_core.specs.Steps.{hand_due, client_due}
 
 due_at : ℕ → Due

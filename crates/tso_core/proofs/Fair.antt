@@ -17,7 +17,7 @@ use Rattle.tso_core.specs.declared.reply.Kind.TheVariants.{Read, Campaign as ToC
 use Rattle.tso_core.specs.declared.reply.Reply.{Reply}
 use Rattle.tso_core.specs.declared.reply.Reply.TheVariants.{Beaten, Lost, TermsSpent, ClockRange, NotLeading, Resigned, Got, Again, NotLeader, Stale, OutOfTurn, CellRead, Claimed, Saved, Probed, Looked, Armed}
 use Rattle.tso_core.specs.Due.{same_due, due_for, at_rest}
-use Rattle.tso_core.specs.Plan.{end_of, past_clock, lead_next, tick_next, saves_for}
+use Rattle.tso_model.specs.Plan.{end_of, past_clock, lead_next, tick_next, saves_for}
 use Rattle.tso_core.specs.Whole.{Whole, place_of_client, view_at, turn_at, found_by, made}
 use Rattle.tso_core.specs.Steps.{Stepped, out_of_turn, decided, read_decides, campaign_decides, save_decides, moves_to, goes_to, probe_decides, looked_reply, arm_reply, draw_reply, look_of, arm_of, draw_of, due_of, driver_step, client_step, step_of, its_save}
 use Rattle.tso_core.specs.Rows.{due_at, take_armed, take_looked, take_of}

@@ -6,7 +6,6 @@ pub mod Lists
 pub mod Machine
 pub mod Notes
 pub mod Opened
-pub mod Plan
 pub mod Rows
 pub mod Seat
 pub mod Sound

@@ -11,7 +11,7 @@ use Rattle.tso_model.specs.Ledger.{Recorded}
 use Rattle.tso_core.specs.declared.turn.Turn.{Turn}
 use Rattle.tso_core.specs.declared.reply.Due.{Due}
 use Rattle.tso_core.specs.declared.reply.Due.TheVariants.{Rest, Campaign, Save, Raise, Publish, Arm, Draw}
-use Rattle.tso_core.specs.Plan.{end_of}
+use Rattle.tso_model.specs.Plan.{end_of}
 use Rattle.tso_core.specs.Whole.{Whole, place_of_client, view_at, turn_at}
 
 -- the view of the driver d

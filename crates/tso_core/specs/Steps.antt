@@ -20,7 +20,7 @@ use Rattle.tso_core.specs.declared.reply.Kind.TheVariants.{Read, Campaign as ToC
 use Rattle.tso_core.specs.declared.reply.Reply.{Reply}
 use Rattle.tso_core.specs.declared.reply.Reply.TheVariants.{Beaten, Lost, TermsSpent, ClockRange, Idle, NotLeading, Resigned, Got, Again, NotLeader, Stale, OutOfTurn, CellRead, Claimed, Saved, Raised, Probed, Published, Looked, Armed}
 use Rattle.tso_core.specs.Due.{same_due, due_for, at_rest}
-use Rattle.tso_core.specs.Plan.{end_of, past_clock, lead_next, tick_next, saves_for}
+use Rattle.tso_model.specs.Plan.{end_of, past_clock, lead_next, tick_next, saves_for}
 use Rattle.tso_core.specs.Whole.{Whole, place_of_client, view_at, turn_at, found_by, made, turned}
 
 -- an answer, and the state after it

@@ -2,7 +2,7 @@
 ghost use Rattle.std.specs.Prelude.{◌≡◌, ◌<◌, ◌≤◌, ◌+◌, ◌^◌};
 ghost use Rattle.tso_model.specs.Words.{cell_of};
 ghost use Rattle.tso_core.specs.Steps.{read_decides, campaign_decides, save_decides, raise_decides, probe_decides, moves_to, looked_reply, arm_reply};
-ghost use Rattle.tso_core.specs.Plan.{end_of};
+ghost use Rattle.tso_model.specs.Plan.{end_of};
 
 use crate::plan::{AHEAD_MS, is_passing, is_past_clock, is_saving, next_of_lead, next_of_tick};
 use crate::{Due, Reply, Turn};

@@ -2,7 +2,7 @@
 ghost use Rattle.std.specs.Prelude.{◌≡◌, ◌<◌, ◌≤◌, ◌+◌, ◌^◌};
 ghost use Rattle.tso_model.specs.Words.{passes};
 ghost use Rattle.tso_model.specs.Steps.{saved_window};
-ghost use Rattle.tso_core.specs.Plan.{lead_next, tick_next, past_clock, saves_for};
+ghost use Rattle.tso_model.specs.Plan.{lead_next, tick_next, past_clock, saves_for};
 
 use pd_types::{LOGICAL, Window};
 

@@ -73,6 +73,7 @@ known_fits k words views h id v s at pos =
       own_sum = mine.own_sum;
       holds = mine.holds;
       marked = mine.marked;
+      aims = mine.aims;
       claims_own = mine.claims_own;
       starts_own = mine.starts_own;
       founds_own = mine.founds_own;
@@ -175,6 +176,7 @@ won_a k words views h id v s at may hit =
         own_sum = mine.own_sum;
         holds = λ _. (new_claim v, refl);
         marked = λ e. absurd (cc e);
+        aims = mine.aims;
         claims_own = λ d q. omega (arith, total-append (λ (c : Claim). cond (eqb c.window.driver d) 1 0) (claims v) (new_claim v ∷ []), mine.claims_own d q, none_of d v.driver v.took_drivers may.0 q);
         starts_own = mine.starts_own;
         founds_own = mine.founds_own;
@@ -281,6 +283,7 @@ kept_a k words views h id hi v c s at pos holds is above small hit =
             (λ _ e. absurd (cc e))
             (λ _ e. let old = mine.marked e in
             (old.0, omega (arith, above, old.1, ap (λ (y : Window). y.lo) held_is, ap (λ (y : Window). y.hi) held_is), omega (arith, old.2, ap (λ (y : Window). y.lo) held_is)));
+        aims = mine.aims;
         claims_own = λ d q. omega (arith, total-append (λ (y : Claim). cond (eqb y.window.driver d) 1 0) v.older (saved_claim hi c ∷ []), total-append (λ (y : Claim). cond (eqb y.window.driver d) 1 0) v.older (option_to_list v.latest), ap (λ (o : Option Claim). total (λ (y : Claim). cond (eqb y.window.driver d) 1 0) (option_to_list o)) is, mine.claims_own d q);
         starts_own = mine.starts_own;
         founds_own = mine.founds_own;

@@ -22,12 +22,12 @@ use Rattle.std.specs.Prelude.{map}
 use Rattle.pd_types.specs.declared.oracle.Batch.{Batch}
 use Rattle.tso_model.specs.Words.{AreClaims, opening_claim}
 use Rattle.tso_model.specs.Moves.{spent_view}
-use Rattle.tso_model.specs.Sound.{FitsA, PartA, drivers_of, clients_of, in_range, Own, Sound}
+use Rattle.tso_model.specs.Sound.{FitsA, PartA, PartB, drivers_of, clients_of, in_range, Own, Sound}
 use Rattle.tso_model.proofs.Basics.{by_eq, by_bool, in_head, in_tail, in_cons, in_nil, past_lower, there, weight_le}
 use Rattle.tso_model.proofs.Sums.{total-only}
 use Rattle.tso_model.proofs.Growth.{in_range_one}
 use Rattle.tso_model.proofs.Moves.{own_zero, same_c}
-use Rattle.tso_model.specs.Ledger.{back, drawn_by, HasAll, Gathered}
+use Rattle.tso_model.specs.Ledger.{back, drawn_by, HasAll, Gathered, GathersEach}
 use Rattle.tso_model.proofs.Ledgers.{window_list, draw_list}
 
 empty_by : {A : Type 0} (by : A → ℕ) (xs : List A) → ((d : ℕ) → (let n : ℕ = total (λ e. cond (eqb (by e) d) 1 0) xs in n) ≡ 0) → xs ≡ []
@@ -118,54 +118,56 @@ by_terms first c past f (g ∷ gs) chain each =
     omega (arith, total-plus (λ (e : Claim). of_term e.window.term f g) (λ (e : Claim). total (of_term e.window.term f) gs) (c ∷ past), one_term first c past g.batch.term (f g) chain has.0 has.1 has.2, by_terms first c past f gs chain (λ x z. each x (in_tail g gs x z)))
 
 -- CLOSING
-pub gathers : (k : Setup) (words : List ℕ) (views : List View) (id : ℕ) (v : View) → Sound k words views → get_elem? views id ≡ some v → HasAll k v → Gathered k v
-gathers k words views id v s at all = record {
-  words = words;
-  history = h;
-  windows = window_list (opening_claim k.cell) h.newest h.past s.a.chain;
-  claims = λ f. omega (arith, s.a.matches.claims f, ours claims (λ (c : Claim). c.window.driver) (λ u. u.driver ∷ u.took_drivers) refl (λ u m. m.claims_own) drivers f, back_total f (h.newest ∷ h.past));
-  draws = draw_list k words views h s.a s.b;
-  batches = λ f. let F : Grant → ℕ = λ g. f g.batch in
-      sym (by_terms (opening_claim k.cell) h.newest h.past F v.grants s.a.chain (λ g z. has_window g z))
-      ∙ total-same (λ (e : Claim). total (of_term e.window.term F) v.grants) (λ (e : Claim). total F (h.drawn e.window.term)) (h.newest ∷ h.past) (λ e. sym (grants (of_term e.window.term F)) ∙ s.a.matches.grants e.window.term F)
-      ∙ sym (drawn_total h.drawn f (h.newest ∷ h.past));
-  starts = λ f. sym (ours (λ u. u.starts) (λ (x : Start). x.driver) (λ u. u.driver ∷ u.took_drivers) refl (λ u m. m.starts_own) drivers f) ∙ s.a.matches.starts f;
-  founds = λ f. sym (ours (λ u. u.founds) (λ (x : Found). x.driver) (λ u. u.driver ∷ u.took_drivers) refl (λ u m. m.founds_own) drivers f) ∙ s.a.matches.founds f;
-  published = λ f. sym (ours (λ u. u.published) (λ (x : Published). x.driver) (λ u. u.driver ∷ u.took_drivers) refl (λ u m. m.published_own) drivers f) ∙ s.a.matches.published f;
-  looks = λ f. sym (ours (λ u. u.looks) (λ (x : Look). x.client) (λ u. u.client ∷ u.took_clients) refl (λ u m. m.looks_own) clients f) ∙ s.a.matches.looks f;
-  refusals = λ f. sym (ours (λ u. u.refusals) (λ (x : Refusal). x.client) (λ u. u.client ∷ u.took_clients) refl (λ u m. m.refusals_own) clients f) ∙ s.a.matches.refusals f;
-  added = λ f. sym (ours (λ u. u.added) (λ (x : Added). x.client) (λ u. u.client ∷ u.took_clients) refl (λ u m. m.added_own) clients f) ∙ s.a.matches.added f;
-  cell = s.a.cell;
-  known = let mine = s.a.each id v at live in (mine.term.1, mine.saved);
-  told = same_c k words views [] h s.c;
-  named = s.a.published;
+pub gathers_parts : (k : Setup) (words : List ℕ) (views : List View) (h : History) (id : ℕ) (v : View) → get_elem? views id ≡ some v → HasAll k v → GathersEach k words views h v
+gathers_parts k words views h id v at all = record {
+  a = λ s. record {
+    windows = window_list (opening_claim k.cell) h.newest h.past s.chain;
+    claims = λ f. omega (arith, s.matches.claims f, ours s claims (λ (c : Claim). c.window.driver) (λ u. u.driver ∷ u.took_drivers) refl (λ u m. m.claims_own) (drivers s) f, back_total f (h.newest ∷ h.past));
+    starts = λ f. sym (ours s (λ u. u.starts) (λ (x : Start). x.driver) (λ u. u.driver ∷ u.took_drivers) refl (λ u m. m.starts_own) (drivers s) f) ∙ s.matches.starts f;
+    founds = λ f. sym (ours s (λ u. u.founds) (λ (x : Found). x.driver) (λ u. u.driver ∷ u.took_drivers) refl (λ u m. m.founds_own) (drivers s) f) ∙ s.matches.founds f;
+    published = λ f. sym (ours s (λ u. u.published) (λ (x : Published). x.driver) (λ u. u.driver ∷ u.took_drivers) refl (λ u m. m.published_own) (drivers s) f) ∙ s.matches.published f;
+    looks = λ f. sym (ours s (λ u. u.looks) (λ (x : Look). x.client) (λ u. u.client ∷ u.took_clients) refl (λ u m. m.looks_own) (clients s) f) ∙ s.matches.looks f;
+    refusals = λ f. sym (ours s (λ u. u.refusals) (λ (x : Refusal). x.client) (λ u. u.client ∷ u.took_clients) refl (λ u m. m.refusals_own) (clients s) f) ∙ s.matches.refusals f;
+    added = λ f. sym (ours s (λ u. u.added) (λ (x : Added). x.client) (λ u. u.client ∷ u.took_clients) refl (λ u m. m.added_own) (clients s) f) ∙ s.matches.added f;
+    cell = s.cell;
+    known = let mine = s.each id v at (live s) in (mine.term.1, mine.saved);
+    named = s.published;
+  };
+  b = λ s b. record {
+    draws = draw_list k words views h s b;
+    batches = λ f. let F : Grant → ℕ = λ g. f g.batch in
+        sym (by_terms (opening_claim k.cell) h.newest h.past F v.grants s.chain (λ g z. has_window s b g z))
+        ∙ total-same (λ (e : Claim). total (of_term e.window.term F) v.grants) (λ (e : Claim). total F (h.drawn e.window.term)) (h.newest ∷ h.past) (λ e. sym (grants s (of_term e.window.term F)) ∙ s.matches.grants e.window.term F)
+        ∙ sym (drawn_total h.drawn f (h.newest ∷ h.past));
+  };
+  c = same_c k words views [] h;
 }
   where
-    h : History
-    h = s.history
+    live : PartA k words views h → v.spent ≡ false
+    live s = by_bool (λ b. v.spent ≡ b → v.spent ≡ false) v.spent (λ _ e. let gone = s.gone id v at e in
+        absurd (omega (arith, all.drivers 1 (omega arith) s.setup.drivers.0, ap (λ (y : View). times 1 (y.driver ∷ y.took_drivers)) gone, own_zero 1 (omega arith)))) (λ _ e. e) refl
 
-    live : v.spent ≡ false
-    live = by_bool (λ b. v.spent ≡ b → v.spent ≡ false) v.spent (λ _ e. let gone = s.a.gone id v at e in
-        absurd (omega (arith, all.drivers 1 (omega arith) s.a.setup.drivers.0, ap (λ (y : View). times 1 (y.driver ∷ y.took_drivers)) gone, own_zero 1 (omega arith)))) (λ _ e. e) refl
-
-    ours : {A : Type 0} (field : View → List A) (by : A → ℕ) (numbers : View → List ℕ) → field spent_view ≡ [] → ((u : View) → FitsA k s.history u → Own (numbers u) by (field u))
+    ours : {A : Type 0} → PartA k words views h → (field : View → List A) (by : A → ℕ) (numbers : View → List ℕ) → field spent_view ≡ [] → ((u : View) → FitsA k h u → Own (numbers u) by (field u))
         → ((j : ℕ) (u : View) → j ≢ id → get_elem? views j ≡ some u → (x : ℕ) → 0 < x → times x (numbers u) ≡ 0) → (f : A → ℕ) → total (λ u. total f (field u)) views ≡ total f (field v)
-    ours field by numbers none own apart f = alone k words views s.history id v field by numbers s.a at none own apart f
+    ours s field by numbers none own apart f = alone k words views h id v field by numbers s at none own apart f
 
-    drivers : (j : ℕ) (u : View) → j ≢ id → get_elem? views j ≡ some u → (x : ℕ) → 0 < x → times x (u.driver ∷ u.took_drivers) ≡ 0
-    drivers = driver_none k words views s.history id v s.a at all
+    drivers : PartA k words views h → (j : ℕ) (u : View) → j ≢ id → get_elem? views j ≡ some u → (x : ℕ) → 0 < x → times x (u.driver ∷ u.took_drivers) ≡ 0
+    drivers s = driver_none k words views h id v s at all
 
-    clients : (j : ℕ) (u : View) → j ≢ id → get_elem? views j ≡ some u → (x : ℕ) → 0 < x → times x (u.client ∷ u.took_clients) ≡ 0
-    clients = client_none k words views s.history id v s.a at all
+    clients : PartA k words views h → (j : ℕ) (u : View) → j ≢ id → get_elem? views j ≡ some u → (x : ℕ) → 0 < x → times x (u.client ∷ u.took_clients) ≡ 0
+    clients s = client_none k words views h id v s at all
 
-    grants : (f : Grant → ℕ) → total (λ u. total f u.grants) views ≡ total f v.grants
-    grants f = ours (λ u. u.grants) (λ (x : Grant). x.client) (λ u. u.client ∷ u.took_clients) refl (λ u m. m.grants_own) clients f
+    grants : PartA k words views h → (f : Grant → ℕ) → total (λ u. total f u.grants) views ≡ total f v.grants
+    grants s f = ours s (λ u. u.grants) (λ (x : Grant). x.client) (λ u. u.client ∷ u.took_clients) refl (λ u m. m.grants_own) (clients s) f
 
-    has_window : (g : Grant) → Contains v.grants g → (e : Claim) × Contains (s.history.newest ∷ s.history.past) e × (e.window.term ≡ g.batch.term)
-    has_window g z = ⊎_elim (λ (f : (c : Claim) × Contains (s.history.newest ∷ s.history.past) c × (c.window.term ≡ g.batch.term)). f)
-        (λ (none : (c : Claim) → Contains (s.history.newest ∷ s.history.past) c → c.window.term ≢ g.batch.term).
+    has_window : PartA k words views h → PartB k words views h → (g : Grant) → Contains v.grants g → (e : Claim) × Contains (h.newest ∷ h.past) e × (e.window.term ≡ g.batch.term)
+    has_window s b g z = ⊎_elim (λ (f : (c : Claim) × Contains (h.newest ∷ h.past) c × (c.window.term ≡ g.batch.term)). f)
+        (λ (none : (c : Claim) → Contains (h.newest ∷ h.past) c → c.window.term ≢ g.batch.term).
         let one : Grant → ℕ = λ _. 1 in
         let weight = weight_le (of_term g.batch.term one) v.grants g z in
-        let it : 1 ≤ of_term g.batch.term one g = by_eq (λ b. 1 ≤ cond b 1 0) g.batch.term g.batch.term (λ _. omega arith) (λ ne. absurd (ne refl)) in
-        absurd (omega (arith, weight, it, grants (of_term g.batch.term one), s.a.matches.grants g.batch.term one, ap (total one) (s.b.none_else g.batch.term none))))
-        (find_term g.batch.term (s.history.newest ∷ s.history.past))
+        let it : 1 ≤ of_term g.batch.term one g = by_eq (λ t. 1 ≤ cond t 1 0) g.batch.term g.batch.term (λ _. omega arith) (λ ne. absurd (ne refl)) in
+        absurd (omega (arith, weight, it, grants s (of_term g.batch.term one), s.matches.grants g.batch.term one, ap (total one) (b.none_else g.batch.term none))))
+        (find_term g.batch.term (h.newest ∷ h.past))
+
+pub gathers : (k : Setup) (words : List ℕ) (views : List View) (id : ℕ) (v : View) → Sound k words views → get_elem? views id ≡ some v → HasAll k v → Gathered k v
+gathers k words views id v s at all = let p = gathers_parts k words views s.history id v at all in record { words = words; history = s.history; a = p.a s.a; b = p.b s.a s.b; c = p.c s.c }

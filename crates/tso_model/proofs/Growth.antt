@@ -162,6 +162,7 @@ fits_later k h g u l starts sums f = record {
   own_sum = λ pos d. f.own_sum pos d ∙ sym (sums pos d);
   holds = f.holds;
   marked = λ m. let old = f.marked m in (old.0, old.1, omega (arith, old.2, l.starts u.driver));
+  aims = f.aims;
   claims_own = f.claims_own;
   starts_own = f.starts_own;
   founds_own = f.founds_own;

@@ -23,7 +23,7 @@ use Rattle.std.proofs.lemmas.List.Elements.{All-nil, All-cons, All-append, All-w
 use Rattle.pd_types.specs.declared.oracle.Batch.{Batch}
 use Rattle.tso_model.specs.Steps.{AtRest}
 use Rattle.tso_model.specs.Moves.{spent_view, nothing_seen}
-use Rattle.tso_model.specs.Sound.{FitsA, PartA, drivers_of, clients_of, Own, FitsB, IsSeen, armed_at}
+use Rattle.tso_model.specs.Sound.{FitsA, PartA, drivers_of, clients_of, Own, FitsB, PartB, IsSeen, armed_at, KeepsEach}
 use Rattle.tso_model.proofs.Basics.{by_eq, by_bool, at_some, if_some, there, greatest_none}
 use Rattle.tso_model.proofs.CellA.{no_some}
 use Rattle.tso_model.proofs.DrawB.{none_armed}
@@ -32,7 +32,7 @@ use Rattle.tso_model.proofs.ListAt.{set_else}
 use Rattle.tso_model.specs.Moves.{greater, joined}
 use Rattle.tso_model.proofs.Growth.{in_range_one, own_counts}
 use Rattle.tso_model.specs.Moves.{upper}
-use Rattle.tso_model.proofs.Moves.{own_zero, same_c}
+use Rattle.tso_model.proofs.Moves.{own_zero, same_c, moved}
 use Rattle.tso_model.specs.Ledger.{Recorded}
 
 greatest_more : (d : ℕ) (xs ys : List Start) → greatest d ys ≡ 0 → greatest d (xs ++ ys) ≡ greatest d xs
@@ -107,6 +107,7 @@ joined_a k words views h id other v w s at was apart live live' =
       own_sum = λ pos d. omega (arith, total-append (λ (a : Added). cond (eqb a.driver d) (cond (eqb a.client v.client) a.count 0) 0) v.added w.added, added_none v.client d w.added (theirs.added_own v.client foreign_c), mine.own_sum pos d);
       holds = mine.holds;
       marked = mine.marked;
+      aims = mine.aims;
       claims_own = own_claims v w mine.claims_own theirs.claims_own;
       starts_own = own_join v.driver w.driver v.took_drivers w.took_drivers (λ (x : Start). x.driver) v.starts w.starts mine.starts_own theirs.starts_own;
       founds_own = own_join v.driver w.driver v.took_drivers w.took_drivers (λ (x : Found). x.driver) v.founds w.founds mine.founds_own theirs.founds_own;
@@ -118,61 +119,55 @@ joined_a k words views h id other v w s at was apart live live' =
     }
 
 -- JOIN, into a view at rest: a driver's, a client's or the base's
-pub joins : (k : Setup) (words : List ℕ) (views : List View) (id other : ℕ) (v w : View) (ws : List Window) (bs : List Batch) → Recorded k words views ws bs → v.spent ≡ false → w.spent ≡ false → AtRest v → get_elem? views id ≡ some v → other ≢ id → get_elem? (set views id (joined v w)) other ≡ some w
-    → Recorded k words (set (set views id (joined v w)) other spent_view) ws bs
-joins k words views id other v w ws bs s live live' rest at apart there = record {
-  history = h;
-  a = record {
-    setup = s.a.setup;
-    wide = s.a.wide;
+pub join_parts : (k : Setup) (words : List ℕ) (views : List View) (h : History) (id other : ℕ) (v w : View) → v.spent ≡ false → w.spent ≡ false → AtRest v → get_elem? views id ≡ some v → other ≢ id → get_elem? (set views id (joined v w)) other ≡ some w
+    → KeepsEach k words views h words (set (set views id (joined v w)) other spent_view) h
+join_parts k words views h id other v w live live' rest at apart there = record {
+  a = λ a. record {
+    setup = a.setup;
+    wide = a.wide;
     matches = record {
-      claims = λ f. omega (arith, two (λ u. total f (claims u)), s.a.matches.claims f, claims_joined v w f);
-      grants = λ t f. omega (arith, two (λ u. total (of_term t f) u.grants), s.a.matches.grants t f, total-append (of_term t f) v.grants w.grants);
-      starts = λ f. omega (arith, two (λ u. total f u.starts), s.a.matches.starts f, total-append f v.starts w.starts);
-      founds = λ f. omega (arith, two (λ u. total f u.founds), s.a.matches.founds f, total-append f v.founds w.founds);
-      published = λ f. omega (arith, two (λ u. total f u.published), s.a.matches.published f, total-append f v.published w.published);
-      looks = λ f. omega (arith, two (λ u. total f u.looks), s.a.matches.looks f, total-append f v.looks w.looks);
-      refusals = λ f. omega (arith, two (λ u. total f u.refusals), s.a.matches.refusals f, total-append f v.refusals w.refusals);
-      added = λ f. omega (arith, two (λ u. total f u.added), s.a.matches.added f, total-append f v.added w.added);
+      claims = λ f. omega (arith, two (λ u. total f (claims u)), a.matches.claims f, claims_joined v w f);
+      grants = λ t f. omega (arith, two (λ u. total (of_term t f) u.grants), a.matches.grants t f, total-append (of_term t f) v.grants w.grants);
+      starts = λ f. omega (arith, two (λ u. total f u.starts), a.matches.starts f, total-append f v.starts w.starts);
+      founds = λ f. omega (arith, two (λ u. total f u.founds), a.matches.founds f, total-append f v.founds w.founds);
+      published = λ f. omega (arith, two (λ u. total f u.published), a.matches.published f, total-append f v.published w.published);
+      looks = λ f. omega (arith, two (λ u. total f u.looks), a.matches.looks f, total-append f v.looks w.looks);
+      refusals = λ f. omega (arith, two (λ u. total f u.refusals), a.matches.refusals f, total-append f v.refusals w.refusals);
+      added = λ f. omega (arith, two (λ u. total f u.added), a.matches.added f, total-append f v.added w.added);
     };
-    chain = s.a.chain;
-    cell = s.a.cell;
-    in_time = s.a.in_time;
-    in_terms = s.a.in_terms;
-    makers = s.a.makers;
-    drivers_once = λ e pos. omega (arith, two (λ u. times e (drivers_of u)), s.a.drivers_once e pos, numbered e v.driver w.driver v.give_drivers w.give_drivers v.took_drivers w.took_drivers, own_zero e pos);
-    clients_once = λ e pos. omega (arith, two (λ u. times e (clients_of u)), s.a.clients_once e pos, numbered e v.client w.client v.give_clients w.give_clients v.took_clients w.took_clients, own_zero e pos);
-    each = λ j u e l. cases j u e (λ (x : View). x.spent ≡ false → FitsA k h x) (λ z. absurd (cc z)) (λ _. joined_a k words views h id other v w s.a at was apart live live') (λ found z. s.a.each j u found z) l;
-    gone = λ j u e l. cases j u e (λ (x : View). x.spent ≡ true → x ≡ spent_view) (λ _. refl) (λ z. absurd (cc (z, live))) (λ found z. s.a.gone j u found z) l;
-    published = s.a.published;
-    limits = s.a.limits;
+    chain = a.chain;
+    cell = a.cell;
+    in_time = a.in_time;
+    in_terms = a.in_terms;
+    makers = a.makers;
+    drivers_once = λ e pos. omega (arith, two (λ u. times e (drivers_of u)), a.drivers_once e pos, numbered e v.driver w.driver v.give_drivers w.give_drivers v.took_drivers w.took_drivers, own_zero e pos);
+    clients_once = λ e pos. omega (arith, two (λ u. times e (clients_of u)), a.clients_once e pos, numbered e v.client w.client v.give_clients w.give_clients v.took_clients w.took_clients, own_zero e pos);
+    each = λ j u e l. cases j u e (λ (x : View). x.spent ≡ false → FitsA k h x) (λ z. absurd (cc z)) (λ _. joined_a k words views h id other v w a at was apart live live') (λ found z. a.each j u found z) l;
+    gone = λ j u e l. cases j u e (λ (x : View). x.spent ≡ true → x ≡ spent_view) (λ _. refl) (λ z. absurd (cc (z, live))) (λ found z. a.gone j u found z) l;
+    published = a.published;
+    limits = a.limits;
   };
-  b = record {
-    inside = s.b.inside;
-    falls = s.b.falls;
-    none_else = s.b.none_else;
-    quotas = omega (arith, two (λ u. u.quota), s.b.quotas);
-    cursors = λ d pos le. omega (arith, two (armed_at d), none_armed d spent_view refl, (let same : armed_at d (joined v w) ≡ armed_at d v = refl in same), s.b.cursors d pos le);
-    raised = s.b.raised;
-    each = λ j u e l. cases j u e (λ (x : View). x.spent ≡ false → FitsB words h x) (λ z. absurd (cc z)) (λ _. both_b) (λ found z. s.b.each j u found z) l;
+  b = λ _ b. record {
+    inside = b.inside;
+    falls = b.falls;
+    none_else = b.none_else;
+    quotas = omega (arith, two (λ u. u.quota), b.quotas);
+    cursors = λ d pos le. omega (arith, two (armed_at d), none_armed d spent_view refl, (let same : armed_at d (joined v w) ≡ armed_at d v = refl in same), b.cursors d pos le);
+    raised = b.raised;
+    each = λ j u e l. cases j u e (λ (x : View). x.spent ≡ false → FitsB words h x) (λ z. absurd (cc z)) (λ _. both_b b) (λ found z. b.each j u found z) l;
   };
-  c = same_c k words views (set (set views id (joined v w)) other spent_view) h s.c;
-  windows_are = s.windows_are;
-  batches_are = s.batches_are;
+  c = λ _ _ c. same_c k words views (set (set views id (joined v w)) other spent_view) h c;
 }
   where
-    h : History
-    h = s.history
-
     was : get_elem? views other ≡ some w
     was = sym (set_else views id other (joined v w) apart) ∙ there
 
     two : (f : View → ℕ) → total f (set (set views id (joined v w)) other spent_view) + (f v + f w) ≡ total f views + (f (joined v w) + f spent_view)
     two f = omega (arith, total-set f (set views id (joined v w)) other w spent_view there, total-set f views id v (joined v w) at)
 
-    both_b : FitsB words h (joined v w)
-    both_b = let mine = s.b.each id v at live in record {
-      seen = greater_is (λ (x : Seen). (x ≡ nothing_seen) ⊎ IsSeen words h x) v.seen w.seen mine.seen (s.b.each other w was live').seen;
+    both_b : PartB k words views h → FitsB words h (joined v w)
+    both_b b = let mine = b.each id v at live in record {
+      seen = greater_is (λ (x : Seen). (x ≡ nothing_seen) ⊎ IsSeen words h x) v.seen w.seen mine.seen (b.each other w was live').seen;
       hand_is = if_some v.hand _ (λ l is. no_some l (sym is ∙ rest.0));
       armed = (omega (arith, rest.1), λ pos. absurd (omega (arith, pos, rest.1)));
     }
@@ -183,3 +178,7 @@ joins k words views id other v w ws bs s live live' rest at apart there = record
         (λ (x : (j ≢ other) × (get_elem? (set views id (joined v w)) j ≡ some u)).
         ⊎_elim (λ (y : (j ≡ id) × (joined v w ≡ u)). subst F y.1 both) (λ (y : (j ≢ id) × (get_elem? views j ≡ some u)). found y.1) (at_set views id j (joined v w) u x.1))
         (at_set (set views id (joined v w)) other j spent_view u e)
+
+pub joins : (k : Setup) (words : List ℕ) (views : List View) (id other : ℕ) (v w : View) (ws : List Window) (bs : List Batch) → Recorded k words views ws bs → v.spent ≡ false → w.spent ≡ false → AtRest v → get_elem? views id ≡ some v → other ≢ id → get_elem? (set views id (joined v w)) other ≡ some w
+    → Recorded k words (set (set views id (joined v w)) other spent_view) ws bs
+joins k words views id other v w ws bs s live live' rest at apart there = moved k words views (set (set views id (joined v w)) other spent_view) ws bs s (join_parts k words views s.history id other v w live live' rest at apart there)

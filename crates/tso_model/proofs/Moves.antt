@@ -25,7 +25,7 @@ use Rattle.pd_types.specs.declared.oracle.CellWord.{CellWord}
 use Rattle.pd_types.specs.declared.oracle.Batch.{Batch}
 use Rattle.tso_model.specs.Words.{packed, passes, opening_claim, limit_at, cursor_at, Inside}
 use Rattle.tso_model.specs.Moves.{spent_view}
-use Rattle.tso_model.specs.Sound.{FitsA, PartA, drivers_of, clients_of, in_range, FitsB, armed_at, PartC, Bounded, Looked, IsSetup}
+use Rattle.tso_model.specs.Sound.{FitsA, PartA, drivers_of, clients_of, in_range, FitsB, armed_at, PartC, Bounded, Looked, IsSetup, KeepsEach}
 use Rattle.tso_model.proofs.Basics.{by_eq, by_bool, in_cons, in_nil, chain_le, there, greatest_none}
 use Rattle.tso_model.proofs.CellA.{opening_stands}
 use Rattle.tso_model.proofs.DrawB.{none_armed}
@@ -134,6 +134,7 @@ starts k ok = record {
       own_sum = λ pos d. refl;
       holds = λ z. absurd (cc z);
       marked = λ z. absurd (cc z);
+      aims = tt;
       claims_own = λ d q. refl;
       starts_own = λ d q. refl;
       founds_own = λ d q. refl;
@@ -159,7 +160,7 @@ pub same_c : (k : Setup) (words : List ℕ) (views others : List View) (h : Hist
 same_c k words views others h s = record { grown = s.grown; counted = s.counted; founds = s.founds; refusals = s.refusals; silent = s.silent; looks = s.looks }
 
 pub record OwesSplit (k : Setup) (words : List ℕ) (h : History) (v left right : View) : Type 0 where
-  pub live : (left.spent ≡ false) × (right.spent ≡ false)
+  pub live : (v.spent ≡ false) × (left.spent ≡ false) × (right.spent ≡ false)
   pub claims : (f : Claim → ℕ) → total f (claims left) + total f (claims right) ≡ total f (claims v)
   pub grants : (f : Grant → ℕ) → total f left.grants + total f right.grants ≡ total f v.grants
   pub starts : (f : Start → ℕ) → total f left.starts + total f right.starts ≡ total f v.starts
@@ -171,55 +172,50 @@ pub record OwesSplit (k : Setup) (words : List ℕ) (h : History) (v left right 
   pub drivers : (e : ℕ) → 0 < e → times e (drivers_of left) + times e (drivers_of right) ≡ times e (drivers_of v)
   pub clients : (e : ℕ) → 0 < e → times e (clients_of left) + times e (clients_of right) ≡ times e (clients_of v)
   pub a : FitsA k h left × FitsA k h right
-  pub b : FitsB words h left × FitsB words h right
+  pub b : FitsB words h v → FitsB words h left × FitsB words h right
   pub quota : left.quota + right.quota ≡ v.quota
   pub armed : (d : ℕ) → armed_at d left + armed_at d right ≤ armed_at d v
 
-pub splits : (k : Setup) (words : List ℕ) (views : List View) (id : ℕ) (v left right : View) (ws : List Window) (bs : List Batch) → (s : Recorded k words views ws bs) → get_elem? views id ≡ some v → OwesSplit k words s.history v left right → Recorded k words (set views id left ++ right ∷ []) ws bs
-splits k words views id v left right ws bs s at o = record {
-  history = h;
-  a = record {
-    setup = s.a.setup;
-    wide = s.a.wide;
+-- a split makes no entry: each part is kept over the same history
+pub splits : (k : Setup) (words : List ℕ) (views : List View) (h : History) (id : ℕ) (v left right : View) → get_elem? views id ≡ some v → (PartA k words views h → OwesSplit k words h v left right) → KeepsEach k words views h words (set views id left ++ right ∷ []) h
+splits k words views h id v left right at owes = record {
+  a = λ a. let o = owes a in record {
+    setup = a.setup;
+    wide = a.wide;
     matches = record {
-      claims = λ f. omega (arith, two (λ u. total f (claims u)), s.a.matches.claims f, o.claims f);
-      grants = λ t f. omega (arith, two (λ u. total (of_term t f) u.grants), s.a.matches.grants t f, o.grants (of_term t f));
-      starts = λ f. omega (arith, two (λ u. total f u.starts), s.a.matches.starts f, o.starts f);
-      founds = λ f. omega (arith, two (λ u. total f u.founds), s.a.matches.founds f, o.founds f);
-      published = λ f. omega (arith, two (λ u. total f u.published), s.a.matches.published f, o.published f);
-      looks = λ f. omega (arith, two (λ u. total f u.looks), s.a.matches.looks f, o.looks f);
-      refusals = λ f. omega (arith, two (λ u. total f u.refusals), s.a.matches.refusals f, o.refusals f);
-      added = λ f. omega (arith, two (λ u. total f u.added), s.a.matches.added f, o.added f);
+      claims = λ f. omega (arith, two (λ u. total f (claims u)), a.matches.claims f, o.claims f);
+      grants = λ t f. omega (arith, two (λ u. total (of_term t f) u.grants), a.matches.grants t f, o.grants (of_term t f));
+      starts = λ f. omega (arith, two (λ u. total f u.starts), a.matches.starts f, o.starts f);
+      founds = λ f. omega (arith, two (λ u. total f u.founds), a.matches.founds f, o.founds f);
+      published = λ f. omega (arith, two (λ u. total f u.published), a.matches.published f, o.published f);
+      looks = λ f. omega (arith, two (λ u. total f u.looks), a.matches.looks f, o.looks f);
+      refusals = λ f. omega (arith, two (λ u. total f u.refusals), a.matches.refusals f, o.refusals f);
+      added = λ f. omega (arith, two (λ u. total f u.added), a.matches.added f, o.added f);
     };
-    chain = s.a.chain;
-    cell = s.a.cell;
-    in_time = s.a.in_time;
-    in_terms = s.a.in_terms;
-    makers = s.a.makers;
-    drivers_once = λ e pos. omega (arith, two (λ u. times e (drivers_of u)), s.a.drivers_once e pos, o.drivers e pos);
-    clients_once = λ e pos. omega (arith, two (λ u. times e (clients_of u)), s.a.clients_once e pos, o.clients e pos);
-    each = λ j u e l. cases j u e (FitsA k h) (λ _. o.a.0) (λ _. o.a.1) (λ _ was. s.a.each j u was l);
-    gone = λ j u e l. cases j u e (λ (x : View). x.spent ≡ true → x ≡ spent_view) (λ _ z. absurd (cc (z, o.live.0))) (λ _ z. absurd (cc (z, o.live.1))) (λ _ was z. s.a.gone j u was z) l;
-    published = s.a.published;
-    limits = s.a.limits;
+    chain = a.chain;
+    cell = a.cell;
+    in_time = a.in_time;
+    in_terms = a.in_terms;
+    makers = a.makers;
+    drivers_once = λ e pos. omega (arith, two (λ u. times e (drivers_of u)), a.drivers_once e pos, o.drivers e pos);
+    clients_once = λ e pos. omega (arith, two (λ u. times e (clients_of u)), a.clients_once e pos, o.clients e pos);
+    each = λ j u e l. cases j u e (FitsA k h) (λ _. o.a.0) (λ _. o.a.1) (λ _ was. a.each j u was l);
+    gone = λ j u e l. cases j u e (λ (x : View). x.spent ≡ true → x ≡ spent_view) (λ _ z. absurd (cc (z, o.live.1))) (λ _ z. absurd (cc (z, o.live.2))) (λ _ was z. a.gone j u was z) l;
+    published = a.published;
+    limits = a.limits;
   };
-  b = record {
-    inside = s.b.inside;
-    falls = s.b.falls;
-    none_else = s.b.none_else;
-    quotas = omega (arith, two (λ u. u.quota), s.b.quotas, o.quota);
-    cursors = λ d pos le. omega (arith, two (armed_at d), o.armed d, s.b.cursors d pos le);
-    raised = s.b.raised;
-    each = λ j u e l. cases j u e (FitsB words h) (λ _. o.b.0) (λ _. o.b.1) (λ _ was. s.b.each j u was l);
+  b = λ a b. let o = owes a in let fit = o.b (b.each id v at o.live.0) in record {
+    inside = b.inside;
+    falls = b.falls;
+    none_else = b.none_else;
+    quotas = omega (arith, two (λ u. u.quota), b.quotas, o.quota);
+    cursors = λ d pos le. omega (arith, two (armed_at d), o.armed d, b.cursors d pos le);
+    raised = b.raised;
+    each = λ j u e l. cases j u e (FitsB words h) (λ _. fit.0) (λ _. fit.1) (λ _ was. b.each j u was l);
   };
-  c = same_c k words views (set views id left ++ right ∷ []) h s.c;
-  windows_are = s.windows_are;
-  batches_are = s.batches_are;
+  c = λ _ _ c. same_c k words views (set views id left ++ right ∷ []) h c;
 }
   where
-    h : History
-    h = s.history
-
     two : (f : View → ℕ) → total f (set views id left ++ right ∷ []) + f v ≡ total f views + (f left + f right)
     two f = omega (arith, total-append f (set views id left) (right ∷ []), total-set f views id v left at)
 
@@ -228,6 +224,10 @@ splits k words views id v left right ws bs s at o = record {
         (λ was. ⊎_elim (λ (x : (j ≡ id) × (left ≡ u)). subst F x.1 (l x.1)) (λ (x : (j ≢ id) × (get_elem? views j ≡ some u)). other x.0 x.1) (at_set views id j left u was))
         (λ (same : right ≡ u). subst F same (r same))
         (at_snoc (set views id left) right u j e)
+
+-- a move that keeps each part over the same history keeps both lists too
+pub moved : (k : Setup) (words : List ℕ) (views others : List View) (ws : List Window) (bs : List Batch) → (s : Recorded k words views ws bs) → KeepsEach k words views s.history words others s.history → Recorded k words others ws bs
+moved k words views others ws bs s p = record { history = s.history; a = p.a s.a; b = p.b s.a s.b; c = p.c s.a s.b s.c; windows_are = s.windows_are; batches_are = s.batches_are }
 
 -- a number to give has no entries
 pub total-none : {A : Type 0} (g : A → ℕ) (l : List A) → ((j : ℕ) (u : A) → get_elem? l j ≡ some u → g u ≡ 0) → total g l ≡ 0
@@ -294,6 +294,7 @@ fresh_a k words views h v w s mine is starts sums =
       own_sum = λ pos d. sym (sums pos d);
       holds = λ z. absurd (cc z);
       marked = λ z. absurd (cc z);
+      aims = tt;
       claims_own = λ d q. refl;
       starts_own = λ d q. refl;
       founds_own = λ d q. refl;
@@ -317,6 +318,7 @@ left_a k h v ds cs q mine = record {
   own_sum = mine.own_sum;
   holds = mine.holds;
   marked = mine.marked;
+  aims = mine.aims;
   claims_own = mine.claims_own;
   starts_own = mine.starts_own;
   founds_own = mine.founds_own;
@@ -327,15 +329,12 @@ left_a k h v ds cs q mine = record {
   added_own = mine.added_own;
 }
 
-pub splits_driver : (k : Setup) (words : List ℕ) (views : List View) (id d : ℕ) (ds : List ℕ) (v : View) (ws : List Window) (bs : List Batch) → Recorded k words views ws bs → get_elem? views id ≡ some v → v.spent ≡ false → v.give_drivers ≡ d ∷ ds
-    → Recorded k words (set views id (gave_driver v) ++ new_driver v ∷ []) ws bs
-splits_driver k words views id d ds v ws bs s at live has =
-    let h = s.history in
-    let mine = s.a.each id v at live in
-    let fit = s.b.each id v at live in
+pub driver_parts : (k : Setup) (words : List ℕ) (views : List View) (h : History) (id d : ℕ) (ds : List ℕ) (v : View) → get_elem? views id ≡ some v → v.spent ≡ false → v.give_drivers ≡ d ∷ ds
+    → KeepsEach k words views h words (set views id (gave_driver v) ++ new_driver v ∷ []) h
+driver_parts k words views h id d ds v at live has =
     let head : head_of v.give_drivers ≡ d = ap head_of has in
-    splits k words views id v (gave_driver v) (new_driver v) ws bs s at record {
-      live = (live, refl);
+    splits k words views h id v (gave_driver v) (new_driver v) at (λ s. let mine = s.each id v at live in record {
+      live = (live, live, refl);
       claims = λ f. omega arith;
       grants = λ f. omega arith;
       starts = λ f. omega arith;
@@ -348,22 +347,23 @@ splits_driver k words views id d ds v ws bs s at live has =
       clients = λ e pos. omega (arith, own_zero e pos);
       a = (
         left_a k h v (rest_of v.give_drivers) v.give_clients v.quota mine,
-        fresh_a k words views h v (new_driver v) s.a mine refl (λ pos. rw head (no_start k words views h d s.a (given_driver k words views h id d ds v s.a at has (omega (arith, pos, head))))) (λ pos e. absurd (omega (arith, pos))),
+        fresh_a k words views h v (new_driver v) s mine refl (λ pos. rw head (no_start k words views h d s (given_driver k words views h id d ds v s at has (omega (arith, pos, head))))) (λ pos e. absurd (omega (arith, pos))),
       );
-      b = (record { seen = fit.seen; hand_is = fit.hand_is; armed = fit.armed }, record { seen = inl refl; hand_is = tt; armed = (omega arith, λ pos. absurd (omega (arith, pos))) });
+      b = λ fit. (record { seen = fit.seen; hand_is = fit.hand_is; armed = fit.armed }, record { seen = inl refl; hand_is = tt; armed = (omega arith, λ pos. absurd (omega (arith, pos))) });
       quota = omega arith;
       armed = λ e. omega (arith, none_armed e (new_driver v) refl);
-    }
+    })
 
-pub splits_client : (k : Setup) (words : List ℕ) (views : List View) (id d : ℕ) (ds : List ℕ) (v : View) (ws : List Window) (bs : List Batch) → Recorded k words views ws bs → get_elem? views id ≡ some v → v.spent ≡ false → v.give_clients ≡ d ∷ ds → 262144 ≤ v.quota → v.armed ≡ 0
-    → Recorded k words (set views id (gave_client v) ++ new_client v ∷ []) ws bs
-splits_client k words views id d ds v ws bs s at live has enough rest =
-    let h = s.history in
-    let mine = s.a.each id v at live in
-    let fit = s.b.each id v at live in
+pub splits_driver : (k : Setup) (words : List ℕ) (views : List View) (id d : ℕ) (ds : List ℕ) (v : View) (ws : List Window) (bs : List Batch) → Recorded k words views ws bs → get_elem? views id ≡ some v → v.spent ≡ false → v.give_drivers ≡ d ∷ ds
+    → Recorded k words (set views id (gave_driver v) ++ new_driver v ∷ []) ws bs
+splits_driver k words views id d ds v ws bs s at live has = moved k words views (set views id (gave_driver v) ++ new_driver v ∷ []) ws bs s (driver_parts k words views s.history id d ds v at live has)
+
+pub client_parts : (k : Setup) (words : List ℕ) (views : List View) (h : History) (id d : ℕ) (ds : List ℕ) (v : View) → get_elem? views id ≡ some v → v.spent ≡ false → v.give_clients ≡ d ∷ ds → 262144 ≤ v.quota → v.armed ≡ 0
+    → KeepsEach k words views h words (set views id (gave_client v) ++ new_client v ∷ []) h
+client_parts k words views h id d ds v at live has enough rest =
     let head : head_of v.give_clients ≡ d = ap head_of has in
-    splits k words views id v (gave_client v) (new_client v) ws bs s at record {
-      live = (live, refl);
+    splits k words views h id v (gave_client v) (new_client v) at (λ s. let mine = s.each id v at live in record {
+      live = (live, live, refl);
       claims = λ f. omega arith;
       grants = λ f. omega arith;
       starts = λ f. omega arith;
@@ -376,21 +376,21 @@ splits_client k words views id d ds v ws bs s at live has enough rest =
       clients = λ e pos. rw has (omega (arith, total-append (λ x. cond (eqb x e) 1 0) ds v.took_clients, total-append (λ x. cond (eqb x e) 1 0) (d ∷ ds) v.took_clients));
       a = (
         left_a k h v v.give_drivers (rest_of v.give_clients) (v.quota - 262144) mine,
-        fresh_a k words views h v (new_client v) s.a mine refl (λ pos. absurd (omega (arith, pos))) (λ pos e. rw head (no_sum k words views h d e s.a (given_client k words views h id d ds v s.a at has (omega (arith, pos, head))))),
+        fresh_a k words views h v (new_client v) s mine refl (λ pos. absurd (omega (arith, pos))) (λ pos e. rw head (no_sum k words views h d e s (given_client k words views h id d ds v s at has (omega (arith, pos, head))))),
       );
-      b = (record { seen = fit.seen; hand_is = fit.hand_is; armed = (omega (arith, rest), λ pos. absurd (omega (arith, pos, rest))) }, record { seen = inl refl; hand_is = tt; armed = (omega arith, λ pos. absurd (omega (arith, pos))) });
+      b = λ fit. (record { seen = fit.seen; hand_is = fit.hand_is; armed = (omega (arith, rest), λ pos. absurd (omega (arith, pos, rest))) }, record { seen = inl refl; hand_is = tt; armed = (omega arith, λ pos. absurd (omega (arith, pos))) });
       quota = omega (arith, enough);
       armed = λ e. omega (arith, none_armed e (new_client v) refl);
-    }
+    })
 
-pub splits_note : (k : Setup) (words : List ℕ) (views : List View) (id : ℕ) (v : View) (ws : List Window) (bs : List Batch) → Recorded k words views ws bs → get_elem? views id ≡ some v → v.spent ≡ false
-    → Recorded k words (set views id v ++ new_note v ∷ []) ws bs
-splits_note k words views id v ws bs s at live =
-    let h = s.history in
-    let mine = s.a.each id v at live in
-    let fit = s.b.each id v at live in
-    splits k words views id v v (new_note v) ws bs s at record {
-      live = (live, refl);
+pub splits_client : (k : Setup) (words : List ℕ) (views : List View) (id d : ℕ) (ds : List ℕ) (v : View) (ws : List Window) (bs : List Batch) → Recorded k words views ws bs → get_elem? views id ≡ some v → v.spent ≡ false → v.give_clients ≡ d ∷ ds → 262144 ≤ v.quota → v.armed ≡ 0
+    → Recorded k words (set views id (gave_client v) ++ new_client v ∷ []) ws bs
+splits_client k words views id d ds v ws bs s at live has enough rest = moved k words views (set views id (gave_client v) ++ new_client v ∷ []) ws bs s (client_parts k words views s.history id d ds v at live has enough rest)
+
+pub note_parts : (k : Setup) (words : List ℕ) (views : List View) (h : History) (id : ℕ) (v : View) → get_elem? views id ≡ some v → v.spent ≡ false → KeepsEach k words views h words (set views id v ++ new_note v ∷ []) h
+note_parts k words views h id v at live =
+    splits k words views h id v v (new_note v) at (λ s. let mine = s.each id v at live in record {
+      live = (live, live, refl);
       claims = λ f. omega arith;
       grants = λ f. omega arith;
       starts = λ f. omega arith;
@@ -401,8 +401,12 @@ splits_note k words views id v ws bs s at live =
       added = λ f. omega arith;
       drivers = λ e pos. omega (arith, own_zero e pos);
       clients = λ e pos. omega (arith, own_zero e pos);
-      a = (mine, fresh_a k words views h v (new_note v) s.a mine refl (λ pos. absurd (omega (arith, pos))) (λ pos e. absurd (omega (arith, pos))));
-      b = (fit, record { seen = fit.seen; hand_is = tt; armed = (omega arith, λ pos. absurd (omega (arith, pos))) });
+      a = (mine, fresh_a k words views h v (new_note v) s mine refl (λ pos. absurd (omega (arith, pos))) (λ pos e. absurd (omega (arith, pos))));
+      b = λ fit. (fit, record { seen = fit.seen; hand_is = tt; armed = (omega arith, λ pos. absurd (omega (arith, pos))) });
       quota = omega arith;
       armed = λ e. omega (arith, none_armed e (new_note v) refl);
-    }
+    })
+
+pub splits_note : (k : Setup) (words : List ℕ) (views : List View) (id : ℕ) (v : View) (ws : List Window) (bs : List Batch) → Recorded k words views ws bs → get_elem? views id ≡ some v → v.spent ≡ false
+    → Recorded k words (set views id v ++ new_note v ∷ []) ws bs
+splits_note k words views id v ws bs s at live = moved k words views (set views id v ++ new_note v ∷ []) ws bs s (note_parts k words views s.history id v at live)

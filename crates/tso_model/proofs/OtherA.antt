@@ -1,6 +1,6 @@
 -- Part A: the steps on limit words and cursors.
 use Rattle.std.proofs.Common.{◌≡◌, ◌≢◌, ℕ, ◌+◌, ◌*◌, ◌/◌, ◌%◌, ◌<◌, ◌≤◌, ◌⊎◌, eqb, cond, true, false, List, [], ◌∷◌, ◌++◌, sym, refl, ap, ◌∙◌, subst, inl, inr, ⊎_elim, arith, ltb, length-set, get_or-set_other, get_or-set_same}
-use Rattle.std.specs.Prelude.{Some, Contains, slice_index, slice_set}
+use Rattle.std.specs.Prelude.{None, Some, IfSome, Contains, slice_index, slice_set}
 use mathlib.Core.Logic.{dite}
 use mathlib.Core.Option.{some}
 use native.Mathlib.Decide.{ℕ_discrete}
@@ -8,6 +8,7 @@ use lib.ListN.{get_elem?}
 use Rattle.pd_types.specs.declared.oracle.Window.{Window}
 use Rattle.tso_model.specs.declared.entries.Claim.{Claim}
 use Rattle.tso_model.specs.declared.view.View.{View}
+use Rattle.tso_model.specs.declared.entries.Limit.{Limit}
 use Rattle.tso_model.specs.declared.entries.Start.{Start}
 use Rattle.tso_model.specs.declared.entries.Found.{Found}
 use Rattle.tso_model.specs.declared.entries.Look.{Look}
@@ -24,7 +25,7 @@ use Rattle.std.proofs.lemmas.Nat.{div-mul-add, mod-mul-add}
 use Rattle.std.proofs.lemmas.List.{set-get_or}
 use Rattle.tso_model.specs.Words.{packed, IsOpen, limit_at, cursor_at}
 use Rattle.tso_model.specs.declared.step.WordStep.TheVariants.{StoreLimit, RaiseCursor, LoadLimit}
-use Rattle.tso_model.specs.Steps.{May, held, held_or, hand, marks, raised, publishes, looked, refused, granted}
+use Rattle.tso_model.specs.Steps.{May, held, held_or, hand, marks, raised, publishes, fresh, looked, refused, granted}
 use Rattle.tso_model.specs.Sound.{FitsA, PartA, Own}
 use Rattle.tso_model.proofs.Basics.{by_eq, by_bool, by_lt, at_some}
 use Rattle.tso_model.proofs.Growth.{names_later, same_windows, own_number, latest_stands, step_a, live_driver, live_client}
@@ -62,7 +63,7 @@ looked_a k words views h id e v s at may =
     let w = looked e x v in
     let later = same_windows h g refl refl (λ d. omega arith) (λ p s. s) in
     let limit_same : (d : ℕ) → 0 < d → slice_index (slice_set words i x) (limit_at d) ≡ slice_index words (limit_at d) = λ d pos. ap (λ (l : List ℕ). slice_index l (limit_at d)) (set-get_or words i 0) in
-    let own : FitsA k g w = record { opening = mine.opening; term = mine.term; saved = mine.saved; at_opening = mine.at_opening; latest = mine.latest; idle = mine.idle; own_start = mine.own_start; own_sum = mine.own_sum; holds = mine.holds; marked = mine.marked; claims_own = mine.claims_own; starts_own = mine.starts_own; founds_own = mine.founds_own; published_own = mine.published_own; grants_own = mine.grants_own; looks_own = own_push (v.client ∷ v.took_clients) (λ (l : Look). l.client) v.looks (the_look v e x) mine.looks_own (λ d q. none_of d v.client v.took_clients may.0 q); refusals_own = mine.refusals_own; added_own = mine.added_own } in
+    let own : FitsA k g w = record { opening = mine.opening; term = mine.term; saved = mine.saved; at_opening = mine.at_opening; latest = mine.latest; idle = mine.idle; own_start = mine.own_start; own_sum = mine.own_sum; holds = mine.holds; marked = mine.marked; aims = by_bool (λ b. IfSome (cond b (Some (record { driver = e; term = x % 262144; hi = x / 262144 })) None) (λ (l : Limit). (0 < l.driver) × (l.driver ≤ k.drivers))) (fresh x v) (λ _. (may.2, may.3)) (λ _. tt); claims_own = mine.claims_own; starts_own = mine.starts_own; founds_own = mine.founds_own; published_own = mine.published_own; grants_own = mine.grants_own; looks_own = own_push (v.client ∷ v.took_clients) (λ (l : Look). l.client) v.looks (the_look v e x) mine.looks_own (λ d q. none_of d v.client v.took_clients may.0 q); refusals_own = mine.refusals_own; added_own = mine.added_own } in
     step_a k words views h id v (slice_set words i x) g w s at record {
       later = later;
       live = live;
@@ -102,7 +103,7 @@ refused_a k words views h id n v s at pos aim =
     let w = refused x n v in
     let later = same_windows h g refl refl (λ d. omega arith) (λ p s. s) in
     let limit_same : (d : ℕ) → 0 < d → slice_index (slice_set words i x) (limit_at d) ≡ slice_index words (limit_at d) = λ d pos. cursor_limit words x d (hand v).driver pos in
-    let own : FitsA k g w = record { opening = mine.opening; term = mine.term; saved = mine.saved; at_opening = mine.at_opening; latest = mine.latest; idle = mine.idle; own_start = mine.own_start; own_sum = mine.own_sum; holds = mine.holds; marked = mine.marked; claims_own = mine.claims_own; starts_own = mine.starts_own; founds_own = mine.founds_own; published_own = mine.published_own; grants_own = mine.grants_own; looks_own = mine.looks_own; refusals_own = own_push (v.client ∷ v.took_clients) (λ (r : Refusal). r.client) v.refusals (the_refusal v x n) mine.refusals_own (λ d q. none_of d v.client v.took_clients pos q); added_own = mine.added_own } in
+    let own : FitsA k g w = record { opening = mine.opening; term = mine.term; saved = mine.saved; at_opening = mine.at_opening; latest = mine.latest; idle = mine.idle; own_start = mine.own_start; own_sum = mine.own_sum; holds = mine.holds; marked = mine.marked; aims = tt; claims_own = mine.claims_own; starts_own = mine.starts_own; founds_own = mine.founds_own; published_own = mine.published_own; grants_own = mine.grants_own; looks_own = mine.looks_own; refusals_own = own_push (v.client ∷ v.took_clients) (λ (r : Refusal). r.client) v.refusals (the_refusal v x n) mine.refusals_own (λ d q. none_of d v.client v.took_clients pos q); added_own = mine.added_own } in
     step_a k words views h id v (slice_set words i x) g w s at record {
       later = later;
       live = live;
@@ -142,7 +143,7 @@ armed_a k words views h id n v s at pos aim =
     let w = record v { armed = n } in
     let later = itself h in
     let limit_same : (d : ℕ) → 0 < d → slice_index (slice_set words i x) (limit_at d) ≡ slice_index words (limit_at d) = λ d pos. cursor_limit words x d (hand v).driver pos in
-    let own : FitsA k g w = record { opening = mine.opening; term = mine.term; saved = mine.saved; at_opening = mine.at_opening; latest = mine.latest; idle = mine.idle; own_start = mine.own_start; own_sum = mine.own_sum; holds = mine.holds; marked = mine.marked; claims_own = mine.claims_own; starts_own = mine.starts_own; founds_own = mine.founds_own; published_own = mine.published_own; grants_own = mine.grants_own; looks_own = mine.looks_own; refusals_own = mine.refusals_own; added_own = mine.added_own } in
+    let own : FitsA k g w = record { opening = mine.opening; term = mine.term; saved = mine.saved; at_opening = mine.at_opening; latest = mine.latest; idle = mine.idle; own_start = mine.own_start; own_sum = mine.own_sum; holds = mine.holds; marked = mine.marked; aims = mine.aims; claims_own = mine.claims_own; starts_own = mine.starts_own; founds_own = mine.founds_own; published_own = mine.published_own; grants_own = mine.grants_own; looks_own = mine.looks_own; refusals_own = mine.refusals_own; added_own = mine.added_own } in
     step_a k words views h id v (slice_set words i x) g w s at record {
       later = later;
       live = live;
@@ -187,7 +188,7 @@ drew_a k words views h id x v s at pos aim =
     let w = drew n v in
     let later = same_windows h g refl refl (λ d. omega arith) (λ p s. s) in
     let limit_same : (d : ℕ) → 0 < d → slice_index (slice_set words i x) (limit_at d) ≡ slice_index words (limit_at d) = λ d pos. cursor_limit words x d (hand v).driver pos in
-    let own : FitsA k g w = record { opening = mine.opening; term = mine.term; saved = mine.saved; at_opening = mine.at_opening; latest = mine.latest; idle = mine.idle; own_start = mine.own_start; own_sum = λ p d. let f : Added → ℕ = λ a. cond (eqb a.driver d) (cond (eqb a.client v.client) a.count 0) 0 in omega (arith, mine.own_sum p d, total-append f v.added (the_added v ∷ []), total-append f h.added (the_added v ∷ [])); holds = mine.holds; marked = mine.marked; claims_own = mine.claims_own; starts_own = mine.starts_own; founds_own = mine.founds_own; published_own = mine.published_own; grants_own = mine.grants_own; looks_own = mine.looks_own; refusals_own = own_push (v.client ∷ v.took_clients) (λ (r : Refusal). r.client) v.refusals (the_refusal v n v.armed) mine.refusals_own (λ d q. none_of d v.client v.took_clients pos q); added_own = own_push (v.client ∷ v.took_clients) (λ (r : Added). r.client) v.added (the_added v) mine.added_own (λ d q. none_of d v.client v.took_clients pos q) } in
+    let own : FitsA k g w = record { opening = mine.opening; term = mine.term; saved = mine.saved; at_opening = mine.at_opening; latest = mine.latest; idle = mine.idle; own_start = mine.own_start; own_sum = λ p d. let f : Added → ℕ = λ a. cond (eqb a.driver d) (cond (eqb a.client v.client) a.count 0) 0 in omega (arith, mine.own_sum p d, total-append f v.added (the_added v ∷ []), total-append f h.added (the_added v ∷ [])); holds = mine.holds; marked = mine.marked; aims = tt; claims_own = mine.claims_own; starts_own = mine.starts_own; founds_own = mine.founds_own; published_own = mine.published_own; grants_own = mine.grants_own; looks_own = mine.looks_own; refusals_own = own_push (v.client ∷ v.took_clients) (λ (r : Refusal). r.client) v.refusals (the_refusal v n v.armed) mine.refusals_own (λ d q. none_of d v.client v.took_clients pos q); added_own = own_push (v.client ∷ v.took_clients) (λ (r : Added). r.client) v.added (the_added v) mine.added_own (λ d q. none_of d v.client v.took_clients pos q) } in
     step_a k words views h id v (slice_set words i x) g w s at record {
       later = later;
       live = live;
@@ -232,7 +233,7 @@ granted_a k words views h id x v s at pos aim =
     let w = granted n v in
     let later = same_windows h g refl refl (λ d. omega arith) (λ p s. s) in
     let limit_same : (d : ℕ) → 0 < d → slice_index (slice_set words i x) (limit_at d) ≡ slice_index words (limit_at d) = λ d pos. cursor_limit words x d (hand v).driver pos in
-    let own : FitsA k g w = record { opening = mine.opening; term = mine.term; saved = mine.saved; at_opening = mine.at_opening; latest = mine.latest; idle = mine.idle; own_start = mine.own_start; own_sum = λ p d. let f : Added → ℕ = λ a. cond (eqb a.driver d) (cond (eqb a.client v.client) a.count 0) 0 in omega (arith, mine.own_sum p d, total-append f v.added (the_added v ∷ []), total-append f h.added (the_added v ∷ [])); holds = mine.holds; marked = mine.marked; claims_own = mine.claims_own; starts_own = mine.starts_own; founds_own = mine.founds_own; published_own = mine.published_own; grants_own = own_push (v.client ∷ v.took_clients) (λ (r : Grant). r.client) v.grants (the_grant v n) mine.grants_own (λ d q. none_of d v.client v.took_clients pos q); looks_own = mine.looks_own; refusals_own = mine.refusals_own; added_own = own_push (v.client ∷ v.took_clients) (λ (r : Added). r.client) v.added (the_added v) mine.added_own (λ d q. none_of d v.client v.took_clients pos q) } in
+    let own : FitsA k g w = record { opening = mine.opening; term = mine.term; saved = mine.saved; at_opening = mine.at_opening; latest = mine.latest; idle = mine.idle; own_start = mine.own_start; own_sum = λ p d. let f : Added → ℕ = λ a. cond (eqb a.driver d) (cond (eqb a.client v.client) a.count 0) 0 in omega (arith, mine.own_sum p d, total-append f v.added (the_added v ∷ []), total-append f h.added (the_added v ∷ [])); holds = mine.holds; marked = mine.marked; aims = tt; claims_own = mine.claims_own; starts_own = mine.starts_own; founds_own = mine.founds_own; published_own = mine.published_own; grants_own = own_push (v.client ∷ v.took_clients) (λ (r : Grant). r.client) v.grants (the_grant v n) mine.grants_own (λ d q. none_of d v.client v.took_clients pos q); looks_own = mine.looks_own; refusals_own = mine.refusals_own; added_own = own_push (v.client ∷ v.took_clients) (λ (r : Added). r.client) v.added (the_added v) mine.added_own (λ d q. none_of d v.client v.took_clients pos q) } in
     step_a k words views h id v (slice_set words i x) g w s at record {
       later = later;
       live = live;
@@ -288,7 +289,7 @@ raised_a k words views h id at x v s here may =
     let w = raised at n v in
     let later = same_windows h g refl refl (λ d. grown_le d v.driver at h.starts) (λ p s. s) in
     let limit_same : (d : ℕ) → 0 < d → slice_index (slice_set words i x) (limit_at d) ≡ slice_index words (limit_at d) = λ d pos. cursor_limit words x d v.driver pos in
-    let own : FitsA k g w = record { opening = mine.opening; term = mine.term; saved = mine.saved; at_opening = mine.at_opening; latest = mine.latest; idle = mine.idle; own_start = λ p. omega (arith, grown_here v.driver v.driver at v.starts refl, grown_here v.driver v.driver at h.starts refl, mine.own_start p); own_sum = mine.own_sum; holds = mine.holds; marked = λ m. ⊎_elim (λ (was : v.marked ≡ true). let old = mine.marked was in (old.0, old.1, omega (arith, old.2, later.starts v.driver))) (λ (y : (v.holds ≡ true) × IsOpen (held v) × ((held v).lo * 262144 ≤ at)). (y.0, y.1, omega (arith, y.2, grown_here v.driver v.driver at h.starts refl))) (marked_if at v m); claims_own = mine.claims_own; starts_own = by_bool (λ b. Own (v.driver ∷ v.took_drivers) (λ (r : Start). r.driver) (cond b v.starts (v.starts ++ the_start v at ∷ []))) (eqb at 0) (λ _. mine.starts_own) (λ _. own_push (v.driver ∷ v.took_drivers) (λ (r : Start). r.driver) v.starts (the_start v at) mine.starts_own (λ d q. none_of d v.driver v.took_drivers may.0 q)); founds_own = own_push (v.driver ∷ v.took_drivers) (λ (r : Found). r.driver) v.founds (the_found v n) mine.founds_own (λ d q. none_of d v.driver v.took_drivers may.0 q); published_own = mine.published_own; grants_own = mine.grants_own; looks_own = mine.looks_own; refusals_own = mine.refusals_own; added_own = mine.added_own } in
+    let own : FitsA k g w = record { opening = mine.opening; term = mine.term; saved = mine.saved; at_opening = mine.at_opening; latest = mine.latest; idle = mine.idle; own_start = λ p. omega (arith, grown_here v.driver v.driver at v.starts refl, grown_here v.driver v.driver at h.starts refl, mine.own_start p); own_sum = mine.own_sum; holds = mine.holds; marked = λ m. ⊎_elim (λ (was : v.marked ≡ true). let old = mine.marked was in (old.0, old.1, omega (arith, old.2, later.starts v.driver))) (λ (y : (v.holds ≡ true) × IsOpen (held v) × ((held v).lo * 262144 ≤ at)). (y.0, y.1, omega (arith, y.2, grown_here v.driver v.driver at h.starts refl))) (marked_if at v m); aims = mine.aims; claims_own = mine.claims_own; starts_own = by_bool (λ b. Own (v.driver ∷ v.took_drivers) (λ (r : Start). r.driver) (cond b v.starts (v.starts ++ the_start v at ∷ []))) (eqb at 0) (λ _. mine.starts_own) (λ _. own_push (v.driver ∷ v.took_drivers) (λ (r : Start). r.driver) v.starts (the_start v at) mine.starts_own (λ d q. none_of d v.driver v.took_drivers may.0 q)); founds_own = own_push (v.driver ∷ v.took_drivers) (λ (r : Found). r.driver) v.founds (the_found v n) mine.founds_own (λ d q. none_of d v.driver v.took_drivers may.0 q); published_own = mine.published_own; grants_own = mine.grants_own; looks_own = mine.looks_own; refusals_own = mine.refusals_own; added_own = mine.added_own } in
     step_a k words views h id v (slice_set words i x) g w s here record {
       later = later;
       live = live;
@@ -344,7 +345,7 @@ published_a k words views h id x v w s at pos names is =
     subst (λ (y : ℕ). Contains g.published (record { driver = d; word = y }) × Names g d (y % 262144) (y / 262144)) (sym same) (later.published _ old.0, names_later h g d _ _ later old.1)) in
     ⊎_elim
     (λ (e : w ≡ publishes x v). subst (λ (u : View). PartA k (slice_set words i x) (slice_set views id u) g) (sym e) (
-    let own : FitsA k g (publishes x v) = record { opening = mine.opening; term = mine.term; saved = mine.saved; at_opening = mine.at_opening; latest = mine.latest; idle = mine.idle; own_start = mine.own_start; own_sum = mine.own_sum; holds = mine.holds; marked = mine.marked; claims_own = mine.claims_own; starts_own = mine.starts_own; founds_own = mine.founds_own; published_own = owned; grants_own = mine.grants_own; looks_own = mine.looks_own; refusals_own = mine.refusals_own; added_own = mine.added_own } in
+    let own : FitsA k g (publishes x v) = record { opening = mine.opening; term = mine.term; saved = mine.saved; at_opening = mine.at_opening; latest = mine.latest; idle = mine.idle; own_start = mine.own_start; own_sum = mine.own_sum; holds = mine.holds; marked = mine.marked; aims = mine.aims; claims_own = mine.claims_own; starts_own = mine.starts_own; founds_own = mine.founds_own; published_own = owned; grants_own = mine.grants_own; looks_own = mine.looks_own; refusals_own = mine.refusals_own; added_own = mine.added_own } in
     step_a k words views h id v (slice_set words i x) g (publishes x v) s at record {
       later = later;
       live = live;
@@ -371,7 +372,7 @@ published_a k words views h id x v w s at pos names is =
       limits = lims;
     }))
     (λ (e : w ≡ record (publishes x v) { holds = false; marked = false }). subst (λ (u : View). PartA k (slice_set words i x) (slice_set views id u) g) (sym e) (
-    let own : FitsA k g (record (publishes x v) { holds = false; marked = false }) = record { opening = mine.opening; term = mine.term; saved = mine.saved; at_opening = mine.at_opening; latest = mine.latest; idle = mine.idle; own_start = mine.own_start; own_sum = mine.own_sum; holds = λ z. absurd (cc z); marked = λ z. absurd (cc z); claims_own = mine.claims_own; starts_own = mine.starts_own; founds_own = mine.founds_own; published_own = owned; grants_own = mine.grants_own; looks_own = mine.looks_own; refusals_own = mine.refusals_own; added_own = mine.added_own } in
+    let own : FitsA k g (record (publishes x v) { holds = false; marked = false }) = record { opening = mine.opening; term = mine.term; saved = mine.saved; at_opening = mine.at_opening; latest = mine.latest; idle = mine.idle; own_start = mine.own_start; own_sum = mine.own_sum; holds = λ z. absurd (cc z); marked = λ z. absurd (cc z); aims = mine.aims; claims_own = mine.claims_own; starts_own = mine.starts_own; founds_own = mine.founds_own; published_own = owned; grants_own = mine.grants_own; looks_own = mine.looks_own; refusals_own = mine.refusals_own; added_own = mine.added_own } in
     step_a k words views h id v (slice_set words i x) g (record (publishes x v) { holds = false; marked = false }) s at record {
       later = later;
       live = live;

@@ -89,6 +89,6 @@ draw_list_sorted ws bs l = climb_sorted 0 0 bs l.high l.term (All-weaker (λ (b 
 pub gathered_lists : (k : Setup) (v : View) (ws : List Claim) (bs : List Batch) → Gathered k v → IsRisingBy (λ (c : Claim). c.window.term) ws → ((f : Claim → ℕ) → total f ws ≡ total f (claims v) + f (opening_claim k.cell))
     → IsRisingBy (λ (b : Batch). b.last) bs → ((f : Batch → ℕ) → total f bs ≡ total (λ (g : Grant). f g.batch) v.grants) → IsWindowList (opening_claim k.cell) ws × IsDrawList ws bs
 gathered_lists k v ws bs g rise same climb weigh =
-    let is : back (g.history.newest ∷ g.history.past) ≡ ws = sorted_claims _ ws (window_list_sorted (opening_claim k.cell) _ g.windows) rise (λ f. sym (g.claims f) ∙ sym (same f)) in
-    let are : drawn_by g.history.drawn (g.history.newest ∷ g.history.past) ≡ bs = sorted_batches _ bs (draw_list_sorted _ _ g.draws) climb (λ f. sym (g.batches f) ∙ sym (weigh f)) in
-    (subst (IsWindowList (opening_claim k.cell)) is g.windows, subst (λ (l : List Claim). IsDrawList l bs) is (subst (IsDrawList (back (g.history.newest ∷ g.history.past))) are g.draws))
+    let is : back (g.history.newest ∷ g.history.past) ≡ ws = sorted_claims _ ws (window_list_sorted (opening_claim k.cell) _ g.a.windows) rise (λ f. sym (g.a.claims f) ∙ sym (same f)) in
+    let are : drawn_by g.history.drawn (g.history.newest ∷ g.history.past) ≡ bs = sorted_batches _ bs (draw_list_sorted _ _ g.b.draws) climb (λ f. sym (g.b.batches f) ∙ sym (weigh f)) in
+    (subst (IsWindowList (opening_claim k.cell)) is g.a.windows, subst (λ (l : List Claim). IsDrawList l bs) is (subst (IsDrawList (back (g.history.newest ∷ g.history.past))) are g.b.draws))

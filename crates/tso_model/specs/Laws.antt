@@ -13,13 +13,18 @@ use Rattle.tso_model.specs.Words.{packed, cell_word, opening_claim, cursor_at}
 use Rattle.tso_model.specs.History.{History, claims}
 use Rattle.tso_model.specs.Steps.{AtRest, HasHand, hand}
 use Rattle.tso_model.specs.Moves.{gave_driver, new_driver, gave_client, new_client, new_note, joined, spent_view}
-use Rattle.tso_model.specs.Sound.{PartA, PartB, Sound, IsAbove, IsUnseen}
-use Rattle.tso_model.specs.Ledger.{Recorded, IsWindowList, IsDrawList, back, drawn_by, Gathered, IsRisingBy}
+use Rattle.tso_model.specs.Sound.{PartA, PartB, Sound, KeepsEach, IsAbove, IsUnseen}
+use Rattle.tso_model.specs.Ledger.{Recorded, IsWindowList, IsDrawList, back, drawn_by, HasAll, Gathered, GathersEach, IsRisingBy}
 
 -- splitting a driver off keeps the rule, by itself and with the lists of the run
 abbrev pub DriverSplitKeeps : Setup → Type 0
 DriverSplitKeeps k = (words : List ℕ) (views : List View) (id d : ℕ) (ds : List ℕ) (v : View) → Sound k words views → get_elem? views id ≡ some v → v.spent ≡ false → v.give_drivers ≡ d ∷ ds
     → Sound k words (slice_set views id (gave_driver v) ++ new_driver v ∷ [])
+
+-- each part by itself, over the same history
+abbrev pub DriverSplitKeepsParts : Setup → Type 0
+DriverSplitKeepsParts k = (words : List ℕ) (views : List View) (h : History) (id d : ℕ) (ds : List ℕ) (v : View) → get_elem? views id ≡ some v → v.spent ≡ false → v.give_drivers ≡ d ∷ ds
+    → KeepsEach k words views h words (slice_set views id (gave_driver v) ++ new_driver v ∷ []) h
 
 -- the same with the windows and batches of the run, which stay
 abbrev pub DriverSplitKeepsLists : Setup → Type 0
@@ -31,6 +36,11 @@ abbrev pub ClientSplitKeeps : Setup → Type 0
 ClientSplitKeeps k = (words : List ℕ) (views : List View) (id d : ℕ) (ds : List ℕ) (v : View) → Sound k words views → get_elem? views id ≡ some v → v.spent ≡ false → v.give_clients ≡ d ∷ ds → 262144 ≤ v.quota → v.armed ≡ 0
     → Sound k words (slice_set views id (gave_client v) ++ new_client v ∷ [])
 
+-- each part by itself, over the same history
+abbrev pub ClientSplitKeepsParts : Setup → Type 0
+ClientSplitKeepsParts k = (words : List ℕ) (views : List View) (h : History) (id d : ℕ) (ds : List ℕ) (v : View) → get_elem? views id ≡ some v → v.spent ≡ false → v.give_clients ≡ d ∷ ds → 262144 ≤ v.quota → v.armed ≡ 0
+    → KeepsEach k words views h words (slice_set views id (gave_client v) ++ new_client v ∷ []) h
+
 -- the same with the windows and batches of the run, which stay
 abbrev pub ClientSplitKeepsLists : Setup → Type 0
 ClientSplitKeepsLists k = (words : List ℕ) (views : List View) (id d : ℕ) (ds : List ℕ) (v : View) (ws : List Window) (bs : List Batch) → Recorded k words views ws bs → get_elem? views id ≡ some v → v.spent ≡ false → v.give_clients ≡ d ∷ ds → 262144 ≤ v.quota → v.armed ≡ 0
@@ -41,6 +51,11 @@ abbrev pub NoteSplitKeeps : Setup → Type 0
 NoteSplitKeeps k = (words : List ℕ) (views : List View) (id : ℕ) (v : View) → Sound k words views → get_elem? views id ≡ some v → v.spent ≡ false
     → Sound k words (slice_set views id v ++ new_note v ∷ [])
 
+-- each part by itself, over the same history
+abbrev pub NoteSplitKeepsParts : Setup → Type 0
+NoteSplitKeepsParts k = (words : List ℕ) (views : List View) (h : History) (id : ℕ) (v : View) → get_elem? views id ≡ some v → v.spent ≡ false
+    → KeepsEach k words views h words (slice_set views id v ++ new_note v ∷ []) h
+
 -- the same with the windows and batches of the run, which stay
 abbrev pub NoteSplitKeepsLists : Setup → Type 0
 NoteSplitKeepsLists k = (words : List ℕ) (views : List View) (id : ℕ) (v : View) (ws : List Window) (bs : List Batch) → Recorded k words views ws bs → get_elem? views id ≡ some v → v.spent ≡ false
@@ -50,6 +65,11 @@ NoteSplitKeepsLists k = (words : List ℕ) (views : List View) (id : ℕ) (v : V
 abbrev pub JoinKeeps : Setup → Type 0
 JoinKeeps k = (words : List ℕ) (views : List View) (id other : ℕ) (v w : View) → Sound k words views → v.spent ≡ false → w.spent ≡ false → AtRest v → get_elem? views id ≡ some v → other ≢ id
     → get_elem? (slice_set views id (joined v w)) other ≡ some w → Sound k words (slice_set (slice_set views id (joined v w)) other spent_view)
+
+-- each part by itself, over the same history
+abbrev pub JoinKeepsParts : Setup → Type 0
+JoinKeepsParts k = (words : List ℕ) (views : List View) (h : History) (id other : ℕ) (v w : View) → v.spent ≡ false → w.spent ≡ false → AtRest v → get_elem? views id ≡ some v → other ≢ id
+    → get_elem? (slice_set views id (joined v w)) other ≡ some w → KeepsEach k words views h words (slice_set (slice_set views id (joined v w)) other spent_view) h
 
 -- the same with the windows and batches of the run, which stay
 abbrev pub JoinKeepsLists : Setup → Type 0
@@ -79,6 +99,10 @@ DrawsUnseen k = (words : List ℕ) (views : List View) (h : History) (id : ℕ) 
 -- the batches of a sound state form the draw list of its windows
 abbrev pub DrawnInWindows : Setup → Type 0
 DrawnInWindows k = (words : List ℕ) (views : List View) (h : History) → PartA k words views h → PartB k words views h → IsDrawList (back (h.newest ∷ h.past)) (drawn_by h.drawn (h.newest ∷ h.past))
+
+-- a view that has all numbers has the entries of the whole run, each part's told by the parts up to it
+abbrev pub GathersParts : Setup → Type 0
+GathersParts k = (words : List ℕ) (views : List View) (h : History) (id : ℕ) (v : View) → get_elem? views id ≡ some v → HasAll k v → GathersEach k words views h v
 
 -- lists that rise by a key are equal where they have equal sums
 abbrev pub RisingAreEqual : {A : Type 0} → (A → ℕ) → Type 0

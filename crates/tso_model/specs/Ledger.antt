@@ -66,24 +66,38 @@ pub record HasAll (k : Setup) (v : View) : Type 0 where
   pub drivers : (d : ℕ) → 0 < d → d ≤ k.drivers → 1 ≤ times d (v.driver ∷ v.took_drivers)
   pub clients : (c : ℕ) → 0 < c → c ≤ k.clients → 1 ≤ times c (v.client ∷ v.took_clients)
 
--- What is known of a view that has all numbers, once the table is closed: its lists are those of the whole run
+-- What part A tells of a view that has all numbers, once the table is closed: its windows, and all its entries but the batches, are those of the whole run
+pub record GatheredWindows (k : Setup) (words : List ℕ) (h : History) (v : View) : Type 0 where
+  pub windows : IsWindowList (opening_claim k.cell) (back (h.newest ∷ h.past))
+  pub claims : (f : Claim → ℕ) → total f (claims v) + f (opening_claim k.cell) ≡ total f (back (h.newest ∷ h.past))
+  pub starts : (f : Start → ℕ) → total f v.starts ≡ total f h.starts
+  pub founds : (f : Found → ℕ) → total f v.founds ≡ total f h.founds
+  pub published : (f : Published → ℕ) → total f v.published ≡ total f h.published
+  pub looks : (f : Look → ℕ) → total f v.looks ≡ total f h.looks
+  pub refusals : (f : Refusal → ℕ) → total f v.refusals ≡ total f h.refusals
+  pub added : (f : Added → ℕ) → total f v.added ≡ total f h.added
+  pub cell : slice_index words 0 ≡ packed h.newest.window.hi h.newest.window.term
+  pub known : (v.cell.term ≤ h.newest.window.term) × (v.cell.saved ≤ h.newest.window.hi)
+  pub named : All (λ (p : Published). p.word ≢ 0 → Names h p.driver (p.word % 262144) (p.word / 262144)) h.published
+
+-- What parts A and B tell then: its batches are those of the whole run, and form a draw list over the windows
+pub record GatheredBatches (h : History) (v : View) : Type 0 where
+  pub draws : IsDrawList (back (h.newest ∷ h.past)) (drawn_by h.drawn (h.newest ∷ h.past))
+  pub batches : (f : Batch → ℕ) → total (λ (g : Grant). f g.batch) v.grants ≡ total f (drawn_by h.drawn (h.newest ∷ h.past))
+
+-- What is known of a view that has all numbers, once the table is closed: its lists are those of the whole run, and part C holds without a view
 pub record Gathered (k : Setup) (v : View) : Type 0 where
   pub words : List ℕ
   pub history : History
-  pub windows : IsWindowList (opening_claim k.cell) (back (history.newest ∷ history.past))
-  pub claims : (f : Claim → ℕ) → total f (claims v) + f (opening_claim k.cell) ≡ total f (back (history.newest ∷ history.past))
-  pub draws : IsDrawList (back (history.newest ∷ history.past)) (drawn_by history.drawn (history.newest ∷ history.past))
-  pub batches : (f : Batch → ℕ) → total (λ (g : Grant). f g.batch) v.grants ≡ total f (drawn_by history.drawn (history.newest ∷ history.past))
-  pub starts : (f : Start → ℕ) → total f v.starts ≡ total f history.starts
-  pub founds : (f : Found → ℕ) → total f v.founds ≡ total f history.founds
-  pub published : (f : Published → ℕ) → total f v.published ≡ total f history.published
-  pub looks : (f : Look → ℕ) → total f v.looks ≡ total f history.looks
-  pub refusals : (f : Refusal → ℕ) → total f v.refusals ≡ total f history.refusals
-  pub added : (f : Added → ℕ) → total f v.added ≡ total f history.added
-  pub cell : slice_index words 0 ≡ packed history.newest.window.hi history.newest.window.term
-  pub known : (v.cell.term ≤ history.newest.window.term) × (v.cell.saved ≤ history.newest.window.hi)
-  pub told : PartC k words [] history
-  pub named : All (λ (p : Published). p.word ≢ 0 → Names history p.driver (p.word % 262144) (p.word / 262144)) history.published
+  pub a : GatheredWindows k words history v
+  pub b : GatheredBatches history v
+  pub c : PartC k words [] history
+
+-- The same part by part: the first from A, the second from A and B, and C from C
+pub record GathersEach (k : Setup) (words : List ℕ) (views : List View) (h : History) (v : View) : Type 0 where
+  pub a : PartA k words views h → GatheredWindows k words h v
+  pub b : PartA k words views h → PartB k words views h → GatheredBatches h v
+  pub c : PartC k words views h → PartC k words [] h
 
 -- the rule of a machine that keeps both lists of the run beside the words and views
 pub record Recorded (k : Setup) (words : List ℕ) (views : List View) (windows : List Window) (batches : List Batch) : Type 0 where

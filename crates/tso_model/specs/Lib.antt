@@ -3,6 +3,7 @@ pub mod Words
 pub mod History
 pub mod Steps
 pub mod Moves
+pub mod Plan
 pub mod Sound
 pub mod Ledger
 pub mod Laws

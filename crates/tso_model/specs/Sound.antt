@@ -54,6 +54,8 @@ pub record FitsA (k : Setup) (h : History) (v : View) : Type 0 where
   -- a held term is that of the latest claim, and a mark says that the cursor was raised to its start
   pub holds : v.holds ≡ true → HasClaim v
   pub marked : v.marked ≡ true → (v.holds ≡ true) × IsOpen (held v) × ((held v).lo * 262144 ≤ greatest v.driver h.starts)
+  -- a limit in hand is of one of the drivers
+  pub aims : IfSome v.hand (λ l. (0 < l.driver) × (l.driver ≤ k.drivers))
   -- entries carry the view's own number or one that it took in
   pub claims_own : Own (v.driver ∷ v.took_drivers) (λ (c : Claim). c.window.driver) (claims v)
   pub starts_own : Own (v.driver ∷ v.took_drivers) (λ (s : Start). s.driver) v.starts
@@ -70,7 +72,7 @@ pub record IsSetup (k : Setup) : Type 0 where
   pub clients : (0 < k.clients) × (k.clients ≤ 64)
   pub cell : (k.cell.saved < 2 ^ 45) × (k.cell.term < 262144)
 
--- Part A. The windows of all views and the opening window are one window list, whose last window the cell names; each number stands in one view; what a view knows of the cell is at most the cell; each published limit names an open window of its driver, whose start the cursor was raised to
+-- Part A. The windows of all views and the opening window are one window list, whose last window the cell names; each number stands in one view; what a view knows of the cell is at most the cell; each published limit names an open window of its driver, whose start the cursor was raised to; a limit in hand is of one of the drivers
 pub record PartA (k : Setup) (words : List ℕ) (views : List View) (h : History) : Type 0 where
   -- one word for the cell, and two for each driver
   pub setup : IsSetup k
@@ -175,6 +177,17 @@ pub record Sound (k : Setup) (words : List ℕ) (views : List View) : Type 0 whe
   pub a : PartA k words views history
   pub b : PartB k words views history
   pub c : PartC k words views history
+
+-- From words and views with the history h to later ones with g: A is kept where A is met, B where A and B are met, and C where all three are met
+pub record KeepsEach (k : Setup) (words : List ℕ) (views : List View) (h : History) (more : List ℕ) (others : List View) (g : History) : Type 0 where
+  pub a : PartA k words views h → PartA k more others g
+  pub b : PartA k words views h → PartB k words views h → PartB k more others g
+  pub c : PartA k words views h → PartB k words views h → PartC k words views h → PartC k more others g
+
+-- Whatever the words, the other views and the history are, the step keeps each part from those before it, with what it adds to the history
+abbrev pub KeepsParts : Setup → ℕ → WordStep → View → Type 0
+KeepsParts k id kind v = (words : List ℕ) (views : List View) (h : History) → get_elem? views id ≡ some v
+    → (g : History) × KeepsEach k words views h (slice_set words (word_of kind v) (word_after kind v (slice_index words (word_of kind v)))) (slice_set views id (view_after kind (slice_index words (word_of kind v)) v)) g
 
 -- Whatever the words and the other views are, the step keeps the rule. This is what the table asks of a step, and what a machine on one thread does
 abbrev pub Keeps : Setup → ℕ → WordStep → View → Type 0

@@ -10,14 +10,15 @@ ghost use Rattle.tso_model.specs.declared.view.View.{View};
 ghost use Rattle.tso_model.specs.Words.{AreClaims, opening_claim};
 ghost use Rattle.tso_model.specs.Steps.{May};
 ghost use Rattle.tso_model.specs.Moves.{first_words, first_view};
-ghost use Rattle.tso_model.specs.Sound.{IsSetup, Sound, Keeps};
+ghost use Rattle.tso_model.specs.Sound.{IsSetup, Sound, Keeps, KeepsParts};
 ghost use Rattle.tso_model.specs.Ledger.{Recorded, KeepsLists, IsWindowList, back, HasAll, Gathered};
-ghost use Rattle.tso_model.specs.Laws.{DriverSplitKeeps, DriverSplitKeepsLists, ClientSplitKeeps, ClientSplitKeepsLists, NoteSplitKeeps, NoteSplitKeepsLists, JoinKeeps, JoinKeepsLists, CellOnlyRises, BeatenByAnother, LostToAnother, DrawsUnseen, DrawnInWindows, RisingAreEqual, SortedAreWhole};
+ghost use Rattle.tso_model.specs.Laws.{DriverSplitKeeps, DriverSplitKeepsParts, DriverSplitKeepsLists, ClientSplitKeeps, ClientSplitKeepsParts, ClientSplitKeepsLists, NoteSplitKeeps, NoteSplitKeepsParts, NoteSplitKeepsLists, JoinKeeps, JoinKeepsParts, JoinKeepsLists, CellOnlyRises, BeatenByAnother, LostToAnother, DrawsUnseen, DrawnInWindows, GathersParts, RisingAreEqual, SortedAreWhole};
 
-/// Each kind of step keeps the rule from any state that meets it, and makes of the windows and
-/// batches of the run what is said.
+/// Each kind of step keeps the rule from any state that meets it: part A from A alone, B from A and
+/// B, C from all three. And it makes of the windows and batches of the run what is said.
 pub fn each_step_keeps()
     ensures rule { (k : Setup) (id : ℕ) (step : WordStep) (v : View) → May k step v → Keeps k id step v }
+    ensures parts { (k : Setup) (id : ℕ) (step : WordStep) (v : View) → May k step v → KeepsParts k id step v }
     ensures lists { (k : Setup) (id : ℕ) (step : WordStep) (v : View) → May k step v → KeepsLists k id step v }
 {}
 
@@ -29,7 +30,13 @@ pub fn each_move_keeps()
     ensures note { (k : Setup) → NoteSplitKeeps k }
     ensures join { (k : Setup) → JoinKeeps k }
 
-    // The same with the windows and batches of the run, which begin with the opening window.
+    // Each part by itself: A from A alone, B from A and B, C from all three.
+    ensures driver_parts { (k : Setup) → DriverSplitKeepsParts k }
+    ensures client_parts { (k : Setup) → ClientSplitKeepsParts k }
+    ensures note_parts { (k : Setup) → NoteSplitKeepsParts k }
+    ensures join_parts { (k : Setup) → JoinKeepsParts k }
+
+    // The rule with the windows and batches of the run, which begin with the opening window.
     ensures made_lists { (k : Setup) → IsSetup k →
         Recorded k (first_words k) (first_view k ∷ []) ((opening_claim k.cell).window ∷ []) [] }
     ensures driver_lists { (k : Setup) → DriverSplitKeepsLists k }
@@ -53,6 +60,7 @@ pub fn the_lists()
     ensures draws { (k : Setup) → DrawnInWindows k }
     ensures gathered { (k : Setup) (words : List ℕ) (views : List View) (id : ℕ) (v : View) →
         Sound k words views → get_elem? views id ≡ some v → HasAll k v → Gathered k v }
+    ensures gathered_parts { (k : Setup) → GathersParts k }
     ensures sorted_windows { RisingAreEqual (λ (c : Claim). c.window.term) }
     ensures sorted_batches { RisingAreEqual (λ (b : Batch). b.last) }
     ensures sorted { (k : Setup) → SortedAreWhole k }
