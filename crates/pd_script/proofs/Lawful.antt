@@ -1,72 +1,44 @@
 -- The script of a text is lawful.
-use Rattle.std.proofs.Common.{◌≡◌, ◌<◌, ◌≤◌, ℕ, ◌+◌, List, [], ◌∷◌, Bool, true, false, cond, map, get_or, nat_le, nat_lt, length, Option, Some, None, refl, sym, ap, subst, ◌∙◌, arith}
-use Rattle.std.specs.Prelude.{Result, Ok, Err, ◌&&◌}
-use Rattle.std.proofs.lemmas.Bool.Decides.{nat_tests}
+use Rattle.std.proofs.Common.{◌≡◌, ◌<◌, ◌≤◌, ℕ, ◌+◌, List, [], ◌∷◌, Bool, true, false, cond, map, get_or, Option, Some, None, refl, sym, ap, subst, ◌∙◌, arith}
+use Rattle.std.specs.Prelude.{Result, Ok, Err}
+use Rattle.std.specs.List.{AllByRecursion}
+use Rattle.std.proofs.lemmas.List.{length-map}
+use Rattle.std.proofs.lemmas.List.Elements.{All-from_recursion}
 use Rattle.pd_lines.specs.Numeral.{number_of}
-use Rattle.pd_types.specs.declared.region.RegionBeat.{RegionBeat}
-use Rattle.pd_types.specs.declared.request.Request.TheVariants.{Hello, Alive, Beat}
-use Rattle.pd_script.specs.Asks.{alive_of, asked_of, beat_of, greeted, head_of, hello_of, labels_or, region_of, reported, store_verb_of, troubled_of}
-use Rattle.pd_script.specs.Forms.{address_of, and_then}
+use Rattle.pd_script.specs.Asks.{asked_of, store_verb_of}
 use Rattle.pd_script.specs.Grammar.{AtFault, by_store_verb, with_request, and_event, and_line, and_number, arity, by_verb, content_of, event_of, events_from, events_of, has_bad_byte, is_passed_over, listed, numbers_of, padded, raw_content, read_places, some_event, unless, with_numbers}
-use Rattle.pd_script.specs.Lawful.{AreLawful, IsLawful, IsLawfulScript, standing_of}
-use Rattle.pd_script.specs.Places.{least, most, read_place, within}
+use Rattle.pd_script.specs.Formed.{IsAsked}
+use Rattle.pd_script.specs.Lawful.{AreLawful, IsFormed, IsLawful, IsLawfulScript, standing_of}
+use Rattle.pd_script.specs.Places.{most, read_place}
 use Rattle.pd_script.specs.Scripts.{act_by, act_of, broken_by, client_of, driver_of, greatest, line_of, script_by, script_of, unless_broken}
 use Rattle.pd_script.specs.Table.{is_misplaced, row, verb_of}
 use Rattle.pd_script.specs.Words.{RawLine, raw_lines, words}
 use Rattle.pd_script.specs.declared.limits.Broken.{Broken}
 use Rattle.pd_script.specs.declared.place.Place.{Place}
 use Rattle.pd_script.specs.declared.refusal.Reason.{Reason}
-use Rattle.pd_script.specs.declared.refusal.Reason.TheVariants.{BadByte, MissingWord, ExtraWord, BadNumber, OutOfRange, Misplaced, NoNewline, UnknownWord}
+use Rattle.pd_script.specs.declared.refusal.Reason.TheVariants.{BadByte, Misplaced, NoNewline, UnknownWord}
 use Rattle.pd_script.specs.declared.refusal.ScriptRefusal.TheVariants.{Fault, Limit}
 use Rattle.pd_script.specs.declared.script.Mode.{Mode}
 use Rattle.pd_script.specs.declared.script.Script.{Script}
 use Rattle.pd_script.specs.declared.act.Act.{Act}
+use Rattle.pd_script.specs.declared.act.Line.{Line}
 use Rattle.pd_script.specs.declared.ask.Asked.{Asked}
-use Rattle.pd_script.specs.declared.ask.Head.{Head}
-use Rattle.pd_script.specs.declared.ask.Troubled.{Troubled}
-use Rattle.pd_script.specs.declared.place.Place.TheVariants.{Driver, Id, Moment}
 use Rattle.pd_script.specs.declared.verb.Event.{Event}
 use Rattle.pd_script.specs.declared.verb.Event.TheVariants.{Step, Ask}
 use Rattle.pd_script.specs.declared.verb.StoreVerb.{StoreVerb}
-use Rattle.pd_script.specs.declared.verb.StoreVerb.TheVariants.{Hello as ToHello, Alive as ToAlive, Beat as ToBeat}
 use Rattle.pd_script.specs.declared.verb.Numbered.{Numbered}
 use Rattle.pd_script.specs.declared.verb.Numbers.{Numbers}
 use Rattle.pd_script.specs.declared.verb.Places.{Places}
 use Rattle.pd_script.specs.declared.verb.Places.TheVariants.{One, Two, Three}
 use Rattle.pd_script.specs.declared.verb.Verb.{Verb}
 use Rattle.pd_script.specs.declared.verb.Verb.TheVariants.{Cell, Lead, Tick, Resign, Take, Tell, Hear, Read, Campaign, Save, Raise, Publish, Probe, Look, Arm, Draw}
+use Rattle.pd_script.proofs.Formed.{IsFine, asked_ok}
 use Rattle.pd_script.proofs.Greatest.{at_least_one}
-use Rattle.pd_script.proofs.Unbroken.{greatest_within}
+use Rattle.pd_script.proofs.LawfulLines.{AreAbove, are_above, clients_greatest, drivers_greatest, few_speakers, numbered_from, rising_from, same_actors}
+use Rattle.pd_script.proofs.Results.{InPlace, in_place, no_fine, same_ok}
+use Rattle.pd_script.proofs.Unbroken.{all_within}
 
--- results
-abbrev or_else : {A B : Type 0} → A → Result A B → A
-or_else a (Ok x) = x
-or_else a (Err e) = a
-
-abbrev IsFine : {A B : Type 0} → Result A B → Type 0
-IsFine (Ok x) = Unit {0}
-IsFine (Err e) = ⊥
-
-no_fine : {A B C : Type 0} (e : B) (x : A) → (let r : Result A B = Err e in r) ≡ Ok x → C
-no_fine e x is = absurd (subst IsFine (sym is) tt)
-
-same_ok : {A B : Type 0} (x y : A) → (let r : Result A B = Ok x in r) ≡ Ok y → x ≡ y
-same_ok x y is = ap (or_else x) is
-
--- a number in range
-record InPlace (p : Place) (n : ℕ) : Type 0 where
-  low : least p ≤ n
-  high : n ≤ most p
-
-within_range : (p : Place) (n m : ℕ) (a b : Bool) → a ≡ nat_le (least p) n → b ≡ nat_le n (most p) → cond {A = Result ℕ Reason} (a && b) (Ok n) (Err OutOfRange) ≡ Ok m → InPlace p m
-within_range p n m true true low high is = subst (λ (x : ℕ). InPlace p x) (same_ok n m is) (record { low = grind (arith, nat_tests, low); high = grind (arith, nat_tests, high) })
-within_range p n m true false low high is = no_fine OutOfRange m is
-within_range p n m false b low high is = no_fine OutOfRange m is
-
-in_place : (p : Place) (o : Option ℕ) (n : ℕ) → within p o ≡ Ok n → InPlace p n
-in_place p None n is = no_fine BadNumber n is
-in_place p (Some m) n is = within_range p m n (nat_le (least p) m) (nat_le m (most p)) refl refl is
-
+-- the numbers in their places
 abbrev AllIn : List Place → List ℕ → Type 0
 AllIn [] ns = Unit {0}
 AllIn (p ∷ ps) [] = ⊥
@@ -117,7 +89,7 @@ numbers_in places ws numbers is = padded_in places (unless (arity (listed places
 -- an event that was read
 abbrev IsRead : Mode → Bool → Event → Type 0
 IsRead mode first (Step verb numbers) = (is_misplaced mode first (row verb).standing ≡ false) × InRange (row verb).places numbers
-IsRead mode first (Ask driver request) = 0 < driver
+IsRead mode first (Ask driver request) = (0 < driver) × IsAsked request
 
 with_read : (mode : Mode) (first : Bool) (verb : Verb) (r : Result Numbers Reason) (e : Event) → is_misplaced mode first (row verb).standing ≡ false → ((n : Numbers) → r ≡ Ok n → InRange (row verb).places n) → with_numbers verb r ≡ Ok e → IsRead mode first e
 with_read mode first verb (Err reason) e placed range is = no_fine reason e is
@@ -127,81 +99,13 @@ placed_read : (mode : Mode) (first : Bool) (ws : List (List ℕ)) (verb : Verb) 
 placed_read mode first ws verb e true placed is = no_fine Misplaced e is
 placed_read mode first ws verb e false placed is = with_read mode first verb (numbers_of (row verb).places ws) e placed (λ n same. numbers_in (row verb).places ws n same) is
 
--- what was read in a row
-then_read : {A B : Type 0} (r : Result A Reason) (next : A → Result B Reason) (b : B) → and_then r next ≡ Ok b → (a : A) × (r ≡ Ok a) × (next a ≡ Ok b)
-then_read (Ok a) next b is = (a, refl, is)
-then_read (Err reason) next b is = no_fine reason b is
-
--- the driver of a request
-head_pos : (store driver moment : List ℕ) (h : Head) → head_of store driver moment ≡ Ok h → 0 < h.driver
-head_pos store driver moment h is =
-    let s = then_read (read_place Id store) _ h is in
-    let d = then_read (read_place Driver driver) _ h s.2 in
-    let m = then_read (read_place Moment moment) _ h d.2 in
-    let range = in_place Driver (number_of driver) d.0 d.1 in
-    subst (λ (x : Head). 0 < x.driver) (same_ok (record { store = s.0; driver = d.0; moment = m.0 }) h m.2) (omega (arith, range.low))
-
-greeted_pos : (store driver moment address labels : List ℕ) (a : Asked) → greeted (head_of store driver moment) address labels ≡ Ok a → 0 < a.driver
-greeted_pos store driver moment address labels a is =
-    let h = then_read (head_of store driver moment) _ a is in
-    let b = then_read (address_of address) _ a h.2 in
-    let l = then_read (labels_or labels) _ a b.2 in
-    subst (λ (x : Asked). 0 < x.driver) (same_ok (record { driver = h.0.driver; request = Hello h.0.store h.0.moment b.0 l.0 }) a l.2) (head_pos store driver moment h.0 h.1)
-
-hello_pos : (ws : List (List ℕ)) (a : Asked) → hello_of ws ≡ Ok a → 0 < a.driver
-hello_pos [] a is = no_fine MissingWord a is
-hello_pos (s ∷ []) a is = no_fine MissingWord a is
-hello_pos (s ∷ d ∷ []) a is = no_fine MissingWord a is
-hello_pos (s ∷ d ∷ m ∷ []) a is = no_fine MissingWord a is
-hello_pos (s ∷ d ∷ m ∷ x ∷ []) a is = greeted_pos s d m x [] a is
-hello_pos (s ∷ d ∷ m ∷ x ∷ l ∷ []) a is = greeted_pos s d m x l a is
-hello_pos (s ∷ d ∷ m ∷ x ∷ l ∷ more ∷ rest) a is = no_fine ExtraWord a is
-
-alive_pos : (ws : List (List ℕ)) (a : Asked) → alive_of ws ≡ Ok a → 0 < a.driver
-alive_pos [] a is = no_fine MissingWord a is
-alive_pos (s ∷ []) a is = no_fine MissingWord a is
-alive_pos (s ∷ d ∷ []) a is = no_fine MissingWord a is
-alive_pos (s ∷ d ∷ m ∷ []) a is =
-    let h = then_read (head_of s d m) _ a is in
-    subst (λ (x : Asked). 0 < x.driver) (same_ok (record { driver = h.0.driver; request = Alive h.0.store h.0.moment }) a h.2) (head_pos s d m h.0 h.1)
-alive_pos (s ∷ d ∷ m ∷ more ∷ rest) a is = no_fine ExtraWord a is
-
-reported_pos : (store driver moment : List ℕ) (beat : Result RegionBeat Reason) (troubled : Result Troubled Reason) (a : Asked) → reported (head_of store driver moment) beat troubled ≡ Ok a → 0 < a.driver
-reported_pos store driver moment beat troubled a is =
-    let h = then_read (head_of store driver moment) _ a is in
-    let b = then_read beat _ a h.2 in
-    let t = then_read troubled _ a b.2 in
-    subst (λ (x : Asked). 0 < x.driver) (same_ok (record { driver = h.0.driver; request = Beat h.0.store h.0.moment (record b.0 { down = t.0.down; pending = t.0.pending }) }) a t.2) (head_pos store driver moment h.0 h.1)
-
-few_pos : (many : Bool) (store driver moment : List ℕ) (beat : Result RegionBeat Reason) (troubled : Result Troubled Reason) (a : Asked) → cond {A = Result Asked Reason} many (Err ExtraWord) (reported (head_of store driver moment) beat troubled) ≡ Ok a → 0 < a.driver
-few_pos true store driver moment beat troubled a is = no_fine ExtraWord a is
-few_pos false store driver moment beat troubled a is = reported_pos store driver moment beat troubled a is
-
-beat_pos : (ws : List (List ℕ)) (a : Asked) → beat_of ws ≡ Ok a → 0 < a.driver
-beat_pos [] a is = no_fine MissingWord a is
-beat_pos (s ∷ []) a is = no_fine MissingWord a is
-beat_pos (s ∷ d ∷ []) a is = no_fine MissingWord a is
-beat_pos (s ∷ d ∷ m ∷ []) a is = no_fine MissingWord a is
-beat_pos (s ∷ d ∷ m ∷ r ∷ []) a is = no_fine MissingWord a is
-beat_pos (s ∷ d ∷ m ∷ r ∷ b ∷ []) a is = no_fine MissingWord a is
-beat_pos (s ∷ d ∷ m ∷ r ∷ b ∷ e ∷ []) a is = no_fine MissingWord a is
-beat_pos (s ∷ d ∷ m ∷ r ∷ b ∷ e ∷ c ∷ []) a is = no_fine MissingWord a is
-beat_pos (s ∷ d ∷ m ∷ r ∷ b ∷ e ∷ c ∷ v ∷ []) a is = no_fine MissingWord a is
-beat_pos (s ∷ d ∷ m ∷ r ∷ b ∷ e ∷ c ∷ v ∷ l ∷ []) a is = no_fine MissingWord a is
-beat_pos (s ∷ d ∷ m ∷ r ∷ b ∷ e ∷ c ∷ v ∷ l ∷ p ∷ more) a is = few_pos (nat_lt 2 (length more)) s d m (region_of r b e c v l p) (troubled_of more) a is
-
-asked_pos : (verb : StoreVerb) (ws : List (List ℕ)) (a : Asked) → asked_of verb ws ≡ Ok a → 0 < a.driver
-asked_pos ToHello ws a is = hello_pos ws a is
-asked_pos ToAlive ws a is = alive_pos ws a is
-asked_pos ToBeat ws a is = beat_pos ws a is
-
-request_read : (mode : Mode) (first : Bool) (r : Result Asked Reason) (e : Event) → ((a : Asked) → r ≡ Ok a → 0 < a.driver) → with_request r ≡ Ok e → IsRead mode first e
-request_read mode first (Err reason) e pos is = no_fine reason e is
-request_read mode first (Ok a) e pos is = subst (λ (x : Event). IsRead mode first x) (same_ok (Ask a.driver a.request) e is) (pos a refl)
+request_read : (mode : Mode) (first : Bool) (r : Result Asked Reason) (e : Event) → ((a : Asked) → r ≡ Ok a → IsFine a) → with_request r ≡ Ok e → IsRead mode first e
+request_read mode first (Err reason) e fine is = no_fine reason e is
+request_read mode first (Ok a) e fine is = let one = fine a refl in subst (λ (x : Event). IsRead mode first x) (same_ok (Ask a.driver a.request) e is) (one.pos, one.asked)
 
 ask_read : (mode : Mode) (first : Bool) (ws : List (List ℕ)) (o : Option StoreVerb) (e : Event) → by_store_verb ws o ≡ Ok e → IsRead mode first e
 ask_read mode first ws None e is = no_fine UnknownWord e is
-ask_read mode first ws (Some verb) e is = request_read mode first (asked_of verb ws) e (λ a same. asked_pos verb ws a same) is
+ask_read mode first ws (Some verb) e is = request_read mode first (asked_of verb ws) e (λ a same. asked_ok verb ws a same) is
 
 verb_read : (mode : Mode) (first : Bool) (ws : List (List ℕ)) (o : Option Verb) (other : Option StoreVerb) (e : Event) → by_verb mode first ws o other ≡ Ok e → IsRead mode first e
 verb_read mode first ws None other e is = ask_read mode first ws other e is
@@ -297,13 +201,33 @@ module _ (drivers clients : ℕ) (n : Numbers) where
 record IsGood (mode : Mode) (drivers clients : ℕ) (first : Bool) (act : Act) : Type 0 where
   placed : is_misplaced mode first (standing_of act) ≡ false
   lawful : IsLawful drivers clients act
+  formed : IsFormed act
+
+formed_step : (verb : Verb) (n : Numbers) → IsFormed (act_by verb n)
+formed_step Cell n = tt
+formed_step Lead n = tt
+formed_step Tick n = tt
+formed_step Resign n = tt
+formed_step Take n = tt
+formed_step Tell n = tt
+formed_step Hear n = tt
+formed_step Read n = tt
+formed_step Campaign n = tt
+formed_step Save n = tt
+formed_step Raise n = tt
+formed_step Publish n = tt
+formed_step Probe n = tt
+formed_step Look n = tt
+formed_step Arm n = tt
+formed_step Draw n = tt
 
 good_event : (mode : Mode) (drivers clients : ℕ) (first : Bool) (e : Event) → IsRead mode first e → driver_of e ≤ drivers → client_of e ≤ clients → IsGood mode drivers clients first (act_of e)
 good_event mode drivers clients first (Step verb numbers) read most others = record {
   placed = ap (is_misplaced mode first) (same_standing verb numbers) ∙ read.0;
   lawful = lawful_act drivers clients numbers verb read.1 (most, others);
+  formed = formed_step verb numbers;
 }
-good_event mode drivers clients first (Ask driver request) read most others = record { placed = refl; lawful = record { pos = read; low = most } }
+good_event mode drivers clients first (Ask driver request) read most others = record { placed = refl; lawful = record { pos = read.0; low = most }; formed = read.1 }
 
 -- all lines
 lawful_lines : (mode : Mode) (drivers clients : ℕ) (first : Bool) (events : List Numbered) → AreRead mode first events → greatest driver_of events ≤ drivers → greatest client_of events ≤ clients → AreLawful mode drivers clients first (map line_of events)
@@ -312,23 +236,36 @@ lawful_lines mode drivers clients first (e ∷ es) read most others =
     let good = good_event mode drivers clients first e.event read.0 (omega (arith, most)) (omega (arith, others)) in
     (good.placed, good.lawful, lawful_lines mode drivers clients false es read.1 (omega (arith, most)) (omega (arith, others)))
 
-unbroken_lawful : (mode : Mode) (events : List Numbered) (script : Script) → broken_by events ≡ None → AreRead mode true events → unless_broken events None ≡ Ok script → IsLawfulScript mode script
-unbroken_lawful mode events script unbroken read is =
-    let few = greatest_within events (sym unbroken) in
+formed_lines : (mode : Mode) (first : Bool) (events : List Numbered) → AreRead mode first events → AllByRecursion (λ (line : Line). IsFormed line.act) (map line_of events)
+formed_lines mode first [] read = tt
+formed_lines mode first (e ∷ es) read = ((good_event mode (driver_of e.event) (client_of e.event) first e.event read.0 (omega arith) (omega arith)).formed, formed_lines mode false es read.1)
+
+-- the lines, where no limit is broken
+unbroken_lawful : (mode : Mode) (events : List Numbered) (script : Script) → broken_by events ≡ None → AreRead mode true events → AreAbove 1 events → unless_broken events None ≡ Ok script → IsLawfulScript mode script
+unbroken_lawful mode events script unbroken read above is =
+    let kept = all_within events (sym unbroken) in
     subst (λ (x : Script). IsLawfulScript mode x) (same_ok (record { drivers = greatest driver_of events; clients = greatest client_of events; lines = map line_of events }) script is)
     (record {
-      drivers = record { pos = omega (arith, at_least_one driver_of events); low = few.0 };
-      clients = record { pos = omega (arith, at_least_one client_of events); low = few.1 };
+      drivers = record { pos = omega (arith, at_least_one driver_of events); low = kept.drivers };
+      clients = record { pos = omega (arith, at_least_one client_of events); low = kept.clients };
       lines = lawful_lines mode (greatest driver_of events) (greatest client_of events) true events read (omega arith) (omega arith);
+      numbered = numbered_from 0 events above;
+      rise = rising_from 1 events above;
+      actors = same_actors events;
+      formed = All-from_recursion (λ (line : Line). IsFormed line.act) (map line_of events) (formed_lines mode true events read);
+      most_drivers = drivers_greatest events;
+      most_clients = clients_greatest events;
+      events = grind (arith, length-map, kept.few);
+      speakers = few_speakers events kept.stores;
     })
 
-by_lawful : (mode : Mode) (r : Result (List Numbered) AtFault) (script : Script) → ((events : List Numbered) → r ≡ Ok events → AreRead mode true events) → script_by r ≡ Ok script → IsLawfulScript mode script
-by_lawful mode (Err fault) script read is = no_fine (Fault fault.line fault.reason) script is
-by_lawful mode (Ok events) script read is = cases (broken_by events) refl is
+by_lawful : (mode : Mode) (r : Result (List Numbered) AtFault) (script : Script) → ((events : List Numbered) → r ≡ Ok events → AreRead mode true events) → ((events : List Numbered) → r ≡ Ok events → AreAbove 1 events) → script_by r ≡ Ok script → IsLawfulScript mode script
+by_lawful mode (Err fault) script read above is = no_fine (Fault fault.line fault.reason) script is
+by_lawful mode (Ok events) script read above is = cases (broken_by events) refl is
   where
     cases : (broken : Option Broken) → broken_by events ≡ broken → unless_broken events broken ≡ Ok script → IsLawfulScript mode script
-    cases None unbroken same = unbroken_lawful mode events script unbroken (read events refl) same
+    cases None unbroken same = unbroken_lawful mode events script unbroken (read events refl) (above events refl) same
     cases (Some b) unbroken same = no_fine (Limit b.what b.count) script same
 
 pub lawful : (mode : Mode) (text : List ℕ) (script : Script) → script_of mode text ≡ Ok script → IsLawfulScript mode script
-lawful mode text script is = by_lawful mode (events_of mode text) script (λ events same. all_read mode 1 true (raw_lines text) events same) is
+lawful mode text script is = by_lawful mode (events_of mode text) script (λ events same. all_read mode 1 true (raw_lines text) events same) (λ events same. are_above mode 1 true (raw_lines text) events same) is

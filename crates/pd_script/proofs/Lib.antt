@@ -1,6 +1,9 @@
 pub mod Cuts
 pub mod Cutting
+pub mod Formed
 pub mod Greatest
 pub mod Lawful
+pub mod LawfulLines
 pub mod Readings
+pub mod Results
 pub mod Unbroken

@@ -7,19 +7,38 @@ use Rattle.pd_script.specs.declared.limits.TheConstants.{MAX_CLIENTS, MAX_DRIVER
 use Rattle.pd_script.specs.declared.verb.Numbered.{Numbered}
 use Rattle.pd_script.proofs.Greatest.{each_within}
 
-no_test : (a b c d : Bool) (w x y z : Broken) → None ≡ cond a (Some w) (cond b (Some x) (cond c (Some y) (cond d (Some z) None))) → (b ≡ false) × (c ≡ false)
+record Passed (a b c d : Bool) : Type 0 where
+  events : a ≡ false
+  drivers : b ≡ false
+  clients : c ≡ false
+  stores : d ≡ false
+
+no_test : (a b c d : Bool) (w x y z : Broken) → None ≡ cond a (Some w) (cond b (Some x) (cond c (Some y) (cond d (Some z) None))) → Passed a b c d
 no_test true b c d w x y z h = cc
 no_test false true c d w x y z h = cc
 no_test false false true d w x y z h = cc
-no_test false false false d w x y z h = (refl, refl)
+no_test false false false true w x y z h = cc
+no_test false false false false w x y z h = record { events = refl; drivers = refl; clients = refl; stores = refl }
 
-pub greatest_within : (events : List Numbered) → None ≡ broken_by events → (greatest driver_of events ≤ 7) × (greatest client_of events ≤ 64)
-greatest_within events h =
+-- no limit is broken
+pub record AreWithin (events : List Numbered) : Type 0 where
+  pub few : length events ≤ 65536
+  pub drivers : greatest driver_of events ≤ 7
+  pub clients : greatest client_of events ≤ 64
+  pub stores : stores_in events ≤ 256
+
+pub all_within : (events : List Numbered) → None ≡ broken_by events → AreWithin events
+all_within events h =
     let tests = no_test (nat_lt MAX_EVENTS (length events)) (nat_lt MAX_DRIVERS (greatest driver_of events)) (nat_lt MAX_CLIENTS (greatest client_of events)) (nat_lt MAX_STORES (stores_in events)) _ _ _ _ h in
-    (grind (arith, nat_tests, tests.0), grind (arith, nat_tests, tests.1))
+    record {
+      few = grind (arith, nat_tests, tests.events);
+      drivers = grind (arith, nat_tests, tests.drivers);
+      clients = grind (arith, nat_tests, tests.clients);
+      stores = grind (arith, nat_tests, tests.stores);
+    }
 
 pub drivers_within : (events : List Numbered) → None ≡ broken_by events → All (λ e. driver_of e.event ≤ 7) events
-drivers_within events h = each_within driver_of 7 events (greatest_within events h).0
+drivers_within events h = each_within driver_of 7 events (all_within events h).drivers
 
 pub clients_within : (events : List Numbered) → None ≡ broken_by events → All (λ e. client_of e.event ≤ 64) events
-clients_within events h = each_within client_of 64 events (greatest_within events h).1
+clients_within events h = each_within client_of 64 events (all_within events h).clients

@@ -257,6 +257,16 @@ fn limits_are_tested_behind_the_grammar(rt: HostRuntime) -> Result<(), Fail> {
     text.push_str("\ntick 8 1\n")?;
     let events = limit(Limited::Events, 65537);
     expect(&rt, alloc, text.as_bytes(), events);
+    let mut text = String::new(alloc);
+    for store in 1..257u64 {
+        let line = format!(in alloc; "alive {store} 1 1\n")?;
+        text.push_str(line.as_str())?;
+    }
+    assert!(rt; text.len() <= 16_777_216);
+    assert!(rt; read_script(alloc, text.as_bytes(), Mode::Replay).is_ok());
+    text.push_str("alive 256 1 1\nhello 257 1 1 a\n")?;
+    let stores = limit(Limited::Stores, 257);
+    expect(&rt, alloc, text.as_bytes(), stores);
     Ok(())
 }
 

@@ -1,0 +1,272 @@
+-- Of the lines of events: their numbers rise, their actors are those of their acts, the greatest drivers and clients are named,
+-- and how many stores speak.
+use Rattle.std.proofs.Common.{◌≡◌, ◌⊎◌, inl, inr, ◌<◌, ◌≤◌, ℕ, zero, suc, ◌+◌, max, List, [], ◌∷◌, ◌++◌, map, Bool, true, false, cond, nat_lt, nat_le, All, Contains, Ordering, Less, Equal, Greater, Option, Some, None, refl, sym, subst, ◌∙◌, arith}
+use Rattle.std.specs.Prelude.{AllPairs, Result, Ok, Err, eqb}
+use Rattle.std.specs.BTreeSet.{insert_key}
+use Rattle.std.specs.List.{AllByRecursion, flat_map}
+use Rattle.std.specs.Ordering.{match_ordering, nat_cmp}
+use Rattle.std.proofs.lemmas.Bool.Decides.{nat_tests}
+use Rattle.std.proofs.lemmas.List.Elements.{All-append, All-cons, All-from_recursion, All-map, All-nil, Contains-append_left, Contains-append_right}
+use Rattle.std.proofs.lemmas.List.Kept.{AllPairs-cons}
+use Rattle.pd_types.specs.declared.request.Request.{Request}
+use Rattle.pd_types.specs.declared.request.Request.TheVariants.{Hello, Alive, Beat, Term as BeginTerm, Retire}
+use Rattle.pd_script.specs.Grammar.{AtFault, and_event, and_line, events_from, raw_content}
+use Rattle.pd_script.specs.Lawful.{AreAtMost, IsGreatest, actor_in, clients_named, drivers_named, speaking}
+use Rattle.pd_script.specs.Scripts.{act_by, act_of, actor_by, actor_of, client_of, driver_of, greatest, line_of, speaker, store_of, stores_from, stores_in, with_stores}
+use Rattle.pd_script.specs.Table.{row}
+use Rattle.pd_script.specs.Words.{RawLine}
+use Rattle.pd_script.specs.declared.act.Act.{Act}
+use Rattle.pd_script.specs.declared.act.Line.{Line}
+use Rattle.pd_script.specs.declared.refusal.Reason.{Reason}
+use Rattle.pd_script.specs.declared.script.Mode.{Mode}
+use Rattle.pd_script.specs.declared.verb.Event.{Event}
+use Rattle.pd_script.specs.declared.verb.Event.TheVariants.{Step, Ask}
+use Rattle.pd_script.specs.declared.verb.Numbered.{Numbered}
+use Rattle.pd_script.specs.declared.verb.Numbers.{Numbers}
+use Rattle.pd_script.specs.declared.verb.Verb.{Verb}
+use Rattle.pd_script.specs.declared.verb.Verb.TheVariants.{Cell, Lead, Tick, Resign, Take, Tell, Hear, Read, Campaign, Save, Raise, Publish, Probe, Look, Arm, Draw}
+use Rattle.pd_script.proofs.Greatest.{at_least_one}
+use Rattle.pd_script.proofs.Results.{no_fine, same_ok}
+
+-- each event's number is above those before it, the first at least this one
+abbrev pub AreAbove : ℕ → List Numbered → Type 0
+AreAbove number [] = Unit {0}
+AreAbove number (e ∷ es) = (number ≤ e.number) × AreAbove (e.number + 1) es
+
+above_less : (less number : ℕ) (events : List Numbered) → less ≤ number → AreAbove number events → AreAbove less events
+above_less less number [] low above = tt
+above_less less number (e ∷ es) low above = (omega (arith, above.0), above.1)
+
+event_above : (number : ℕ) (e : Event) (r : Result (List Numbered) AtFault) (events : List Numbered) → ((es : List Numbered) → r ≡ Ok es → AreAbove (number + 1) es) → and_event number e r ≡ Ok events → AreAbove number events
+event_above number e (Err fault) events rest is = no_fine fault events is
+event_above number e (Ok es) events rest is = subst (λ (l : List Numbered). AreAbove number l) (same_ok (record { number = number; event = e } ∷ es) events is) (omega arith, rest es refl)
+
+line_above : (number : ℕ) (content : Result (Option Event) Reason) (passed read : Result (List Numbered) AtFault) (events : List Numbered) → ((es : List Numbered) → passed ≡ Ok es → AreAbove (number + 1) es) → ((es : List Numbered) → read ≡ Ok es → AreAbove (number + 1) es)
+    → and_line number content passed read ≡ Ok events → AreAbove number events
+line_above number (Err reason) passed read events over behind is = no_fine (record { line = number; reason = reason }) events is
+line_above number (Ok None) passed read events over behind is = above_less number (number + 1) events (omega arith) (over events is)
+line_above number (Ok (Some e)) passed read events over behind is = event_above number e read events behind is
+
+pub are_above : (mode : Mode) (number : ℕ) (first : Bool) (raws : List RawLine) (events : List Numbered) → events_from mode number first raws ≡ Ok events → AreAbove number events
+are_above mode number first [] events is = subst (λ (l : List Numbered). AreAbove number l) (same_ok [] events is) tt
+are_above mode number first (raw ∷ raws) events is = line_above number (raw_content mode first raw) (events_from mode (number + 1) first raws) (events_from mode (number + 1) false raws) events
+    (λ es same. are_above mode (number + 1) first raws es same) (λ es same. are_above mode (number + 1) false raws es same) is
+
+each_above : (less number : ℕ) (events : List Numbered) → less < number → AreAbove number events → AllByRecursion (λ (line : Line). less < line.number) (map line_of events)
+each_above less number [] low above = tt
+each_above less number (e ∷ es) low above = (omega (arith, above.0), each_above less (e.number + 1) es (omega (arith, above.0)) above.1)
+
+pub numbered_from : (number : ℕ) (events : List Numbered) → AreAbove (number + 1) events → All (λ line. 0 < line.number) (map line_of events)
+numbered_from number events above = All-from_recursion (λ (line : Line). 0 < line.number) (map line_of events) (each_above 0 (number + 1) events (omega arith) above)
+
+pub rising_from : (number : ℕ) (events : List Numbered) → AreAbove number events → AllPairs (λ one later. one.number < later.number) (map line_of events)
+rising_from number [] above = λ i j d less low. absurd (omega arith)
+rising_from number (e ∷ es) above = AllPairs-cons (λ (one later : Line). one.number < later.number) (line_of e) (map line_of es)
+    (All-from_recursion (λ (line : Line). e.number < line.number) (map line_of es) (each_above e.number (e.number + 1) es (omega arith) above.1)) (rising_from (e.number + 1) es above.1)
+
+-- who acts
+step_actor : (verb : Verb) (n : Numbers) → actor_by (row verb).places n ≡ actor_in (act_by verb n)
+step_actor Cell n = refl
+step_actor Lead n = refl
+step_actor Tick n = refl
+step_actor Resign n = refl
+step_actor Take n = refl
+step_actor Tell n = refl
+step_actor Hear n = refl
+step_actor Read n = refl
+step_actor Campaign n = refl
+step_actor Save n = refl
+step_actor Raise n = refl
+step_actor Publish n = refl
+step_actor Probe n = refl
+step_actor Look n = refl
+step_actor Arm n = refl
+step_actor Draw n = refl
+
+same_actor : (e : Event) → actor_of e ≡ actor_in (act_of e)
+same_actor (Step verb numbers) = step_actor verb numbers
+same_actor (Ask driver request) = refl
+
+pub same_actors : (events : List Numbered) → All (λ line. line.actor ≡ actor_in line.act) (map line_of events)
+same_actors events = All-map (λ (line : Line). line.actor ≡ actor_in line.act) line_of events (λ k d low. same_actor _)
+
+-- the greatest that an event names: none is above it, and it is 0 or named
+record IsMost (numbers : List ℕ) (n : ℕ) : Type 0 where
+  above : All (λ m. m ≤ n) numbers
+  named : (n ≡ 0) ⊎ Contains numbers n
+
+no_one : (n : ℕ) → n ≡ 0 → IsMost [] n
+no_one n is = record { above = All-nil (λ m. m ≤ n); named = inl is }
+
+only_one : (m n : ℕ) → m ≡ n → IsMost (m ∷ []) n
+only_one m n is = record { above = All-cons (λ k. k ≤ n) m [] (omega (arith, is)) (All-nil (λ k. k ≤ n)); named = inr (0, omega arith, is) }
+
+both_of : (a b n : ℕ) → n ≡ max a b → IsMost (a ∷ b ∷ []) n
+both_of a b n is = record {
+  above = All-cons (λ k. k ≤ n) a (b ∷ []) (omega (arith, is)) (All-cons (λ k. k ≤ n) b [] (omega (arith, is)) (All-nil (λ k. k ≤ n)));
+  named = cases (nat_le a b) refl;
+}
+  where
+    cases : (t : Bool) → nat_le a b ≡ t → (n ≡ 0) ⊎ Contains (a ∷ b ∷ []) n
+    cases true low = inr (1, omega arith, grind (arith, nat_tests, low, is))
+    cases false low = inr (0, omega arith, grind (arith, nat_tests, low, is))
+
+step_drivers : (verb : Verb) (n : Numbers) → IsMost (drivers_named (act_by verb n)) (driver_of (Step verb n))
+step_drivers Cell n = no_one _ (omega arith)
+step_drivers Lead n = only_one n.first _ (omega arith)
+step_drivers Tick n = only_one n.first _ (omega arith)
+step_drivers Resign n = only_one n.first _ refl
+step_drivers Take n = only_one n.second _ (omega arith)
+step_drivers Tell n = no_one _ (omega arith)
+step_drivers Hear n = no_one _ refl
+step_drivers Read n = only_one n.first _ (omega arith)
+step_drivers Campaign n = only_one n.first _ refl
+step_drivers Save n = only_one n.first _ refl
+step_drivers Raise n = only_one n.first _ refl
+step_drivers Publish n = only_one n.first _ refl
+step_drivers Probe n = only_one n.first _ (omega arith)
+step_drivers Look n = only_one n.second _ (omega arith)
+step_drivers Arm n = no_one _ (omega arith)
+step_drivers Draw n = no_one _ refl
+
+step_clients : (verb : Verb) (n : Numbers) → IsMost (clients_named (act_by verb n)) (client_of (Step verb n))
+step_clients Cell n = no_one _ (omega arith)
+step_clients Lead n = no_one _ (omega arith)
+step_clients Tick n = no_one _ (omega arith)
+step_clients Resign n = no_one _ refl
+step_clients Take n = only_one n.first _ (omega arith)
+step_clients Tell n = both_of n.first n.second _ refl
+step_clients Hear n = only_one n.first _ refl
+step_clients Read n = no_one _ (omega arith)
+step_clients Campaign n = no_one _ refl
+step_clients Save n = no_one _ refl
+step_clients Raise n = no_one _ refl
+step_clients Publish n = no_one _ refl
+step_clients Probe n = no_one _ (omega arith)
+step_clients Look n = only_one n.first _ (omega arith)
+step_clients Arm n = only_one n.first _ (omega arith)
+step_clients Draw n = only_one n.first _ refl
+
+event_drivers : (e : Event) → IsMost (drivers_named (act_of e)) (driver_of e)
+event_drivers (Step verb numbers) = step_drivers verb numbers
+event_drivers (Ask driver request) = only_one driver driver refl
+
+event_clients : (e : Event) → IsMost (clients_named (act_of e)) (client_of e)
+event_clients (Step verb numbers) = step_clients verb numbers
+event_clients (Ask driver request) = no_one 0 refl
+
+all_lower : (n m : ℕ) (numbers : List ℕ) → n ≤ m → All (λ k. k ≤ n) numbers → All (λ k. k ≤ m) numbers
+all_lower n m numbers low all = λ k d within. omega (arith, all k d within)
+
+more_named : (a b : ℕ) (here behind : List ℕ) → IsMost here a → IsGreatest behind b → 1 ≤ b → IsGreatest (here ++ behind) (max a b)
+more_named a b here behind most rest one = record {
+  above = All-append (λ m. m ≤ max a b) here behind (all_lower a (max a b) here (omega arith) most.above) (all_lower b (max a b) behind (omega arith) rest.above);
+  named = cases (nat_le a b) refl;
+}
+  where
+    of_rest : max a b ≡ b → (b ≡ 1) ⊎ Contains behind b → (max a b ≡ 1) ⊎ Contains (here ++ behind) (max a b)
+    of_rest same (inl is) = inl (same ∙ is)
+    of_rest same (inr has) = inr (subst (λ (n : ℕ). Contains (here ++ behind) n) (sym same) (Contains-append_right here behind b has))
+
+    of_here : max a b ≡ a → 1 ≤ a → (a ≡ 0) ⊎ Contains here a → (max a b ≡ 1) ⊎ Contains (here ++ behind) (max a b)
+    of_here same some (inl is) = absurd (omega (arith, is))
+    of_here same some (inr has) = inr (subst (λ (n : ℕ). Contains (here ++ behind) n) (sym same) (Contains-append_left here behind a has))
+
+    cases : (t : Bool) → nat_le a b ≡ t → (max a b ≡ 1) ⊎ Contains (here ++ behind) (max a b)
+    cases true low = of_rest (grind (arith, nat_tests, low)) rest.named
+    cases false low = of_here (grind (arith, nat_tests, low)) (grind (arith, nat_tests, low)) most.named
+
+module _ (of : Event → ℕ) (named : Act → List ℕ) (each : (e : Event) → IsMost (named (act_of e)) (of e)) where
+  greatest_named : (events : List Numbered) → IsGreatest (flat_map (λ (line : Line). named line.act) (map line_of events)) (greatest of events)
+  greatest_named [] = record { above = All-nil (λ m. m ≤ 1); named = inl refl }
+  greatest_named (e ∷ es) = more_named (of e.event) (greatest of es) (named (act_of e.event)) (flat_map (λ (line : Line). named line.act) (map line_of es)) (each e.event) (greatest_named es) (at_least_one of es)
+
+pub drivers_greatest : (events : List Numbered) → IsGreatest (flat_map (λ (line : Line). drivers_named line.act) (map line_of events)) (greatest driver_of events)
+drivers_greatest events = greatest_named driver_of drivers_named event_drivers events
+
+pub clients_greatest : (events : List Numbered) → IsGreatest (flat_map (λ (line : Line). clients_named line.act) (map line_of events)) (greatest client_of events)
+clients_greatest events = greatest_named client_of clients_named event_clients events
+
+-- the stores that speak
+has_head : (x y : ℕ) (xs : List ℕ) → x ≡ y → Contains (x ∷ xs) y
+has_head x y xs same = (0, omega arith, same)
+
+has_tail : (x y : ℕ) (xs : List ℕ) → Contains xs y → Contains (x ∷ xs) y
+has_tail x y xs (k, low, same) = (suc k, omega arith, same)
+
+has_cases : (x y : ℕ) (xs : List ℕ) → Contains (x ∷ xs) y → (x ≡ y) ⊎ Contains xs y
+has_cases x y xs (zero, low, same) = inl same
+has_cases x y xs (suc k, low, same) = inr (k, omega arith, same)
+
+inserted : (k : ℕ) (ks : List ℕ) → Contains (insert_key nat_cmp ks k) k
+inserted k [] = has_head k k [] refl
+inserted k (x ∷ xs) = cases (nat_lt k x) (eqb k x) refl (inserted k xs)
+  where
+    cases : (a b : Bool) → eqb k x ≡ b → Contains (insert_key nat_cmp xs k) k → Contains (match_ordering (cond a Less (cond b Equal Greater)) (k ∷ x ∷ xs) (x ∷ xs) (x ∷ insert_key nat_cmp xs k)) k
+    cases true b same deep = has_head k k (x ∷ xs) refl
+    cases false true same deep = has_head x k xs (grind (arith, nat_tests, same))
+    cases false false same deep = has_tail x k (insert_key nat_cmp xs k) deep
+
+stays : (k y : ℕ) (ks : List ℕ) → Contains ks y → Contains (insert_key nat_cmp ks k) y
+stays k y [] has = has_tail k y [] has
+stays k y (x ∷ xs) has = cases (nat_cmp k x) (deep (has_cases x y xs has) (stays k y xs))
+  where
+    deep : (x ≡ y) ⊎ Contains xs y → (Contains xs y → Contains (insert_key nat_cmp xs k) y) → Contains (x ∷ insert_key nat_cmp xs k) y
+    deep (inl same) behind = has_head x y (insert_key nat_cmp xs k) same
+    deep (inr here) behind = has_tail x y (insert_key nat_cmp xs k) (behind here)
+
+    cases : (o : Ordering) → Contains (x ∷ insert_key nat_cmp xs k) y → Contains (match_ordering o (k ∷ x ∷ xs) (x ∷ xs) (x ∷ insert_key nat_cmp xs k)) y
+    cases Less later = has_tail k y (x ∷ xs) has
+    cases Equal later = has
+    cases Greater later = later
+
+with_stays : (known stores : List ℕ) (y : ℕ) → Contains known y → Contains (with_stores known stores) y
+with_stays known [] y has = has
+with_stays known (store ∷ stores) y has = stays store y known has
+
+all_stays : (known : List ℕ) (events : List Numbered) (y : ℕ) → Contains known y → Contains (stores_from known events) y
+all_stays known [] y has = has
+all_stays known (e ∷ es) y has = all_stays (with_stores known (store_of e.event)) es y (with_stays known (store_of e.event) y has)
+
+step_silent : (verb : Verb) (n : Numbers) → speaking (act_by verb n) ≡ []
+step_silent Cell n = refl
+step_silent Lead n = refl
+step_silent Tick n = refl
+step_silent Resign n = refl
+step_silent Take n = refl
+step_silent Tell n = refl
+step_silent Hear n = refl
+step_silent Read n = refl
+step_silent Campaign n = refl
+step_silent Save n = refl
+step_silent Raise n = refl
+step_silent Publish n = refl
+step_silent Probe n = refl
+step_silent Look n = refl
+step_silent Arm n = refl
+step_silent Draw n = refl
+
+request_has : (known : List ℕ) (request : Request) → AllByRecursion (Contains (with_stores known (speaker request))) (speaker request)
+request_has known (Hello store moment address labels) = (inserted store known, tt)
+request_has known (Alive store moment) = (inserted store known, tt)
+request_has known (Beat store moment beat) = (inserted store known, tt)
+request_has known (BeginTerm term moment) = tt
+request_has known Retire = tt
+
+event_has : (known : List ℕ) (e : Event) → AllByRecursion (Contains (with_stores known (store_of e))) (speaking (act_of e))
+event_has known (Step verb numbers) = subst (λ (l : List ℕ). AllByRecursion (Contains known) l) (sym (step_silent verb numbers)) tt
+event_has known (Ask driver request) = request_has known request
+
+all_have : (known more numbers : List ℕ) → ((y : ℕ) → Contains known y → Contains more y) → AllByRecursion (Contains known) numbers → AllByRecursion (Contains more) numbers
+all_have known more [] keeps all = tt
+all_have known more (n ∷ ns) keeps all = (keeps n all.0, all_have known more ns keeps all.1)
+
+all_speak : (known : List ℕ) (events : List Numbered) → All (Contains (stores_from known events)) (flat_map (λ (line : Line). speaking line.act) (map line_of events))
+all_speak known [] = All-nil (Contains known)
+all_speak known (e ∷ es) =
+    let more = with_stores known (store_of e.event) in
+    let here = all_have more (stores_from more es) (speaking (act_of e.event)) (λ y has. all_stays more es y has) (event_has known e.event) in
+    All-append (Contains (stores_from more es)) (speaking (act_of e.event)) (flat_map (λ (line : Line). speaking line.act) (map line_of es)) (All-from_recursion (Contains (stores_from more es)) (speaking (act_of e.event)) here) (all_speak more es)
+
+pub few_speakers : (events : List Numbered) → stores_in events ≤ 256 → AreAtMost 256 (flat_map (λ (line : Line). speaking line.act) (map line_of events))
+few_speakers events few = record { kept = stores_from [] events; few = few; all = all_speak [] events }

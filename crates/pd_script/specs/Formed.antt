@@ -1,0 +1,56 @@
+-- The forms of what a store asks (own choice).
+use Rattle.std.specs.Prelude.{◌≡◌, ◌≢◌, ◌⊎◌, ℕ, ◌<◌, ◌≤◌, ◌^◌, List, length, true, All, AllPairs}
+use Rattle.pd_types.specs.declared.region.DownPeer.{DownPeer}
+use Rattle.pd_types.specs.declared.region.Peer.{Peer}
+use Rattle.pd_types.specs.declared.region.RegionBeat.{RegionBeat}
+use Rattle.pd_types.specs.declared.region.Role.TheVariants.{Voter, Learner}
+use Rattle.pd_types.specs.declared.request.Request.{Request}
+use Rattle.pd_types.specs.declared.request.Request.TheVariants.{Hello, Alive, Beat, Term, Retire}
+use Rattle.pd_types.specs.declared.store.Label.{Label}
+use Rattle.pd_script.specs.Forms.{is_plain}
+
+-- the id of a store, a region or a peer: 1 to 2^63 - 1
+pub record IsId (n : ℕ) : Type 0 where
+  pub some : 0 < n
+  pub low : n < 2 ^ 63
+
+-- at most four labels, each key and each value of 1 to 32 plain characters, and no key twice
+pub record AreLabels (labels : List Label) : Type 0 where
+  pub few : length labels ≤ 4
+  pub keys : All (λ label. is_plain 32 label.key ≡ true) labels
+  pub values : All (λ label. is_plain 32 label.value ≡ true) labels
+  pub distinct : AllPairs (λ one later. one.key ≢ later.key) labels
+
+-- a voter or a learner, with its id and its store's
+pub record IsPeer (peer : Peer) : Type 0 where
+  pub id : IsId peer.id
+  pub store : IsId peer.store
+  pub role : (peer.role ≡ Voter) ⊎ (peer.role ≡ Learner)
+
+-- a peer that is down, by its id, for less than 2^32 seconds
+pub record IsDown (down : DownPeer) : Type 0 where
+  pub peer : IsId down.peer
+  pub seconds : down.seconds < 2 ^ 32
+
+-- a region heartbeat: its ids and those of its peers, and an epoch below 2^63; the keys have no bound here
+pub record IsReport (beat : RegionBeat) : Type 0 where
+  pub region : IsId beat.region.id
+  pub conf_ver : beat.region.epoch.conf_ver < 2 ^ 63
+  pub version : beat.region.epoch.version < 2 ^ 63
+  pub leader : IsId beat.leader
+  pub peers : All IsPeer beat.region.peers
+  pub down : All IsDown beat.down
+  pub pending : All IsId beat.pending
+
+-- a store that speaks, and a moment below 2^46
+pub record IsSpoken (store moment : ℕ) : Type 0 where
+  pub id : IsId store
+  pub low : moment < 2 ^ 46
+
+-- what a line may ask: a store's request with an address of 1 to 64 plain characters and labels, alone, or with a region
+abbrev pub IsAsked : Request → Type 0
+IsAsked (Hello store moment address labels) = IsSpoken store moment × (is_plain 64 address ≡ true) × AreLabels labels
+IsAsked (Alive store moment) = IsSpoken store moment
+IsAsked (Beat store moment beat) = IsSpoken store moment × IsReport beat
+IsAsked (Term term moment) = ⊥
+IsAsked Retire = ⊥
