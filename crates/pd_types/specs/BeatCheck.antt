@@ -1,5 +1,5 @@
 -- What a region heartbeat must meet by itself (pdpb, `RegionHeartbeatRequest`; the tests and their order are our own choice).
-use Rattle.std.specs.Prelude.{ℕ, List, [], ◌∷◌, length, Bool, true, false, not, ◌&&◌, ◌||◌, nat_eq, nat_lt, Option}
+use Rattle.std.specs.Prelude.{ℕ, List, [], ◌∷◌, length, Bool, false, not, ◌&&◌, ◌||◌, nat_eq, nat_lt, Option}
 use Rattle.std.specs.Cmp.Lexicographic.{slice_cmp}
 use Rattle.std.specs.List.{find, list_any}
 use Rattle.std.specs.Ordering.{is_lt, nat_cmp}
@@ -32,9 +32,9 @@ shares_store (peer ∷ peers) = has_store peers peer.store || shares_store peers
 abbrev pub is_below : List ℕ → List ℕ → Bool
 is_below key other = is_lt (slice_cmp nat_cmp key other)
 
--- the leader is a peer that is no voter
-abbrev pub is_led_by_other : List Peer → ℕ → Bool
-is_led_by_other peers leader = list_any (λ peer. nat_eq peer.id leader && not (is_voter peer.role)) peers
+-- a peer with the leader's id is no voter
+abbrev pub leader_is_no_voter : List Peer → ℕ → Bool
+leader_is_no_voter peers leader = list_any (λ peer. nat_eq peer.id leader && not (is_voter peer.role)) peers
 
 -- the end isn't empty and isn't above the start
 abbrev pub is_bad_range : List ℕ → List ℕ → Bool
@@ -47,7 +47,7 @@ fails beat TooManyPeers = nat_lt MAX_PEERS (length beat.region.peers)
 fails beat DoublePeer = shares_id beat.region.peers
 fails beat DoubleStore = shares_store beat.region.peers
 fails beat LeaderAbsent = not (has_id beat.region.peers beat.leader)
-fails beat LeaderNotVoter = is_led_by_other beat.region.peers beat.leader
+fails beat LeaderNotVoter = leader_is_no_voter beat.region.peers beat.leader
 fails beat BadRange = is_bad_range beat.region.start beat.region.end
 fails beat LongKey = nat_lt MAX_KEY (length beat.region.start) || nat_lt MAX_KEY (length beat.region.end)
 
@@ -58,3 +58,14 @@ tests = NoPeers ∷ TooManyPeers ∷ DoublePeer ∷ DoubleStore ∷ LeaderAbsent
 -- the first test that the heartbeat fails
 abbrev pub first_fault : RegionBeat → Option BeatFault
 first_fault beat = find (fails beat) tests
+
+-- the number that a cluster answers for a test, from 1: its place among the tests
+abbrev pub fault_number : BeatFault → ℕ
+fault_number NoPeers = 1
+fault_number TooManyPeers = 2
+fault_number DoublePeer = 3
+fault_number DoubleStore = 4
+fault_number LeaderAbsent = 5
+fault_number LeaderNotVoter = 6
+fault_number BadRange = 7
+fault_number LongKey = 8

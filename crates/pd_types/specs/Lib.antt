@@ -4,3 +4,4 @@ pub mod Bytes
 pub mod Roles
 pub mod StepText
 pub mod Timestamp
+pub mod WellFormed

@@ -1,7 +1,8 @@
 // What a region heartbeat must meet by itself.
 ghost use Rattle.std.specs.Prelude.{◌≡◌, ◌↔◌, IsOk, IfErr};
 ghost use Rattle.std.specs.List.{find};
-ghost use Rattle.pd_types.specs.BeatCheck.{fails, first_fault, has_id, has_store, is_bad_range, is_led_by_other, shares_id, shares_store};
+ghost use Rattle.pd_types.specs.BeatCheck.{fails, first_fault, has_id, has_store, is_bad_range, leader_is_no_voter, shares_id, shares_store};
+ghost use Rattle.pd_types.specs.WellFormed.{IsLeastFault, IsWellFormed};
 
 use crate::{Peer, RegionBeat, Role};
 use thiserror::Error;
@@ -33,6 +34,8 @@ pub enum BeatFault {
     #[error("a key is longer than 4,096 bytes")]
     LongKey,
 }
+
+const _: () = prove!(MAX_PEERS == 15 && MAX_KEY == 4_096);
 
 fn has_id(peers: &[Peer], id: u64) -> bool
     ensures value { result ≡ has_id peers.now id }
@@ -67,8 +70,8 @@ fn share_store(peers: &[Peer]) -> bool
 }
 
 // Whether the leader is a peer that is no voter.
-fn is_led_by_other(peers: &[Peer], leader: u64) -> bool
-    ensures value { result ≡ is_led_by_other peers.now leader }
+fn leader_is_no_voter(peers: &[Peer], leader: u64) -> bool
+    ensures value { result ≡ leader_is_no_voter peers.now leader }
 {
     peers
         .iter()
@@ -95,7 +98,7 @@ fn fails(beat: &RegionBeat, test: BeatFault) -> bool
         BeatFault::DoublePeer => share_id(peers),
         BeatFault::DoubleStore => share_store(peers),
         BeatFault::LeaderAbsent => !has_id(peers, beat.leader),
-        BeatFault::LeaderNotVoter => is_led_by_other(peers, beat.leader),
+        BeatFault::LeaderNotVoter => leader_is_no_voter(peers, beat.leader),
         BeatFault::BadRange => is_bad_range(region.start.as_slice(), region.end.as_slice()),
         BeatFault::LongKey => region.start.len() > MAX_KEY || region.end.len() > MAX_KEY,
     }
@@ -115,9 +118,12 @@ fn first_failing(beat: &RegionBeat, tests: &[BeatFault]) -> Option<BeatFault>
 
 /// Tests a region heartbeat by itself (pdpb `RegionHeartbeatRequest`; the tests are our own choice).
 /// Down and pending peers that aren't in the region count for nothing.
+#[tactic(auto, using(crate::proofs::BeatLemmas::first_least, crate::proofs::BeatLemmas::passes_formed, crate::proofs::BeatLemmas::formed_passes))]
 pub fn check_beat(beat: &RegionBeat) -> Result<(), BeatFault>
     ensures ok { IsOk result ↔ (first_fault beat.now ≡ None) }
     ensures fault { IfErr result (λ fault. first_fault beat.now ≡ Some fault) }
+    ensures least { IfErr result (IsLeastFault beat.now) }
+    ensures formed { IsOk result ↔ IsWellFormed beat.now }
 {
     let tests = [
         BeatFault::NoPeers,

@@ -2,6 +2,7 @@
 #![tactic(auto)]
 
 mod beat;
+mod laws;
 mod lists;
 mod memory;
 mod oracle;
@@ -16,16 +17,20 @@ mod tests;
 mod text;
 
 pub use beat::{BeatFault, MAX_KEY, MAX_PEERS, check_beat};
+pub use laws::{each_role_votes_or_learns_or_neither, keys_go_by_their_bytes};
 pub use lists::{
     Batches, Bytes, Constraints, Downs, Duplicate, Ids, Keys, Labels, Peers, Rules, Seq, Steps,
     Texts, Windows,
 };
 pub use memory::NoMemory;
-pub use oracle::{Actor, Batch, CellWord, Seen, Window, batches_apart_share_no_timestamp};
+pub use oracle::{
+    Actor, Batch, CellWord, Seen, Window, batches_apart_share_no_timestamp,
+    batches_have_their_count,
+};
 pub use region::{DownPeer, Epoch, Peer, Region, RegionBeat, Role};
 pub use request::Request;
 pub use rule::{Constraint, Op, Rule, RuleRole};
-pub use stamp::{LOGICAL, pack, unpack};
+pub use stamp::{LOGICAL, pack, packs_and_unpacks, unpack};
 pub use step::Step;
 pub use store::{Label, StoreRec, StoreState};
 pub use text::Text;

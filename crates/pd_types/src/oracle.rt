@@ -1,4 +1,4 @@
-ghost use Rattle.std.specs.Prelude.{◌≡◌, ◌<◌, ◌≤◌, ℕ};
+ghost use Rattle.std.specs.Prelude.{◌≡◌, ◌+◌, ◌<◌, ◌≤◌, ℕ};
 ghost use Rattle.pd_types.specs.Batch.{first_of, Holds};
 
 use crate::{Duplicate, NoMemory};
@@ -87,4 +87,9 @@ impl Duplicate for Seen {
 /// Where one batch ends before another begins, no timestamp is in both.
 pub fn batches_apart_share_no_timestamp()
     ensures apart { (a b : Batch) (ts : ℕ) → a.last < first_of b → Holds a ts → Holds b ts → ⊥ }
+{}
+
+/// A batch has as many timestamps as its count: as many numbers lie from its first to its last.
+pub fn batches_have_their_count()
+    ensures count { (b : Batch) → 0 < b.count → b.count ≤ b.last → first_of b + b.count ≡ b.last + 1 }
 {}

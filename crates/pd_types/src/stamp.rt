@@ -4,6 +4,8 @@ ghost use Rattle.pd_types.specs.Timestamp.{timestamp, physical, logical};
 /// How many timestamps a millisecond has.
 pub const LOGICAL: u64 = 262144;
 
+const _: () = prove!(LOGICAL == 262_144);
+
 /// The timestamp with these parts: milliseconds since the epoch, and a count within the
 /// millisecond.
 pub fn pack(physical: u64, logical: u64) -> u64

@@ -191,3 +191,26 @@ fn a_step_is_printed(rt: HostRuntime) -> Result<(), Fail> {
     assert_eq!(rt; printed.as_str(), "promote-learner peer 14 store 4");
     Ok(())
 }
+
+// The words are those of the tests' own descriptions.
+#[test]
+fn a_fault_is_printed_in_words(rt: HostRuntime) -> Result<(), Fail> {
+    let rows = [
+        (BeatFault::NoPeers, "the region has no peers"),
+        (BeatFault::TooManyPeers, "the region has more than 15 peers"),
+        (BeatFault::DoublePeer, "two peers have one id"),
+        (BeatFault::DoubleStore, "two peers are on one store"),
+        (
+            BeatFault::LeaderAbsent,
+            "the leader is no peer of the region",
+        ),
+        (BeatFault::LeaderNotVoter, "the leader is no voter"),
+        (BeatFault::BadRange, "the end key isn't above the start key"),
+        (BeatFault::LongKey, "a key is longer than 4,096 bytes"),
+    ];
+    for (fault, words) in rows {
+        let printed = format!(in rt.alloc(); "{fault}")?;
+        assert_eq!(rt; printed.as_str(), words);
+    }
+    Ok(())
+}

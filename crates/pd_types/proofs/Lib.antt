@@ -1,0 +1,3 @@
+pub mod BeatLemmas
+pub mod KeyLemmas
+pub mod RoleLemmas
