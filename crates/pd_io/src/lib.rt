@@ -1,6 +1,7 @@
 //! Where bytes come from and go to, with a count of faults that never falls.
 #![tactic(auto)]
 
+mod laws;
 mod memory;
 mod standard;
 mod sure;
@@ -8,6 +9,7 @@ mod sure;
 mod tests;
 mod traits;
 
+pub use laws::a_count_that_rose_is_above;
 pub use memory::{MemSink, MemSource};
 pub use standard::{StdSink, StdSource};
 pub use sure::{SureSink, SureSource};

@@ -22,7 +22,7 @@ pub struct MemSource {
 }
 
 impl MemSource {
-    ghost use Rattle.pd_io.specs.Memory.{source_calls, source_fails, source_left, source_piece};
+    ghost use Rattle.pd_io.specs.Memory.{source_calls, source_fails, source_faults, source_left, source_piece};
 
     /// A source of these bytes; `piece` is positive.
     pub fn new(bytes: Vec<u8>, piece: usize, fails: Vec<u32>) -> Self
@@ -31,6 +31,7 @@ impl MemSource {
         ensures fails { source_fails result ≡ fails.items }
         ensures calls { source_calls result ≡ 0 }
         ensures most { source_piece result ≡ piece }
+        ensures faults { source_faults result ≡ 0 }
     {
         MemSource {
             bytes,
@@ -98,7 +99,7 @@ pub struct MemSink {
 }
 
 impl MemSink {
-    ghost use Rattle.pd_io.specs.Memory.{sink_calls, sink_fails, sink_held, sink_piece};
+    ghost use Rattle.pd_io.specs.Memory.{sink_calls, sink_fails, sink_faults, sink_held, sink_piece};
 
     /// An empty sink; `piece` is positive.
     pub fn new(alloc: Global, piece: usize, fails: Vec<u32>) -> Self
@@ -107,6 +108,7 @@ impl MemSink {
         ensures fails { sink_fails result ≡ fails.items }
         ensures calls { sink_calls result ≡ 0 }
         ensures most { sink_piece result ≡ piece }
+        ensures faults { sink_faults result ≡ 0 }
     {
         MemSink {
             bytes: Vec::new(alloc),

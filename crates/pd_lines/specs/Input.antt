@@ -1,5 +1,5 @@
 -- What a call took of a source, and why it may refuse.
-use Rattle.std.specs.Prelude.{ℕ, ◌<◌, ◌≤◌, List, length, Result, Option, IsErrOf}
+use Rattle.std.specs.Prelude.{ℕ, ◌+◌, ◌<◌, ◌≤◌, List, length, Result, Option, IsErrOf}
 use Rattle.std.specs.Io.KnownBytes.{Consumes, IsAtEnd}
 use Rattle.pd_io.specs.Faults.{Rose}
 use Rattle.pd_lines.specs.declared.input.ReadRefusal.{ReadRefusal}
@@ -11,11 +11,12 @@ pub record ReadsWhole (old new : Option (List ℕ)) (limit : ℕ) (text : List �
   pub at_end : IsAtEnd new
   pub short : length text ≤ limit
 
--- more than the limit was taken
+-- more than the limit was taken, and not asked again after that: no more than one piece beyond it
 pub record TakesMore (old new : Option (List ℕ)) (limit : ℕ) : Type 0 where
   pub front : List ℕ
   pub taken : Consumes old new front
   pub long : limit < length front
+  pub soon : length front ≤ limit + 4096
 
 -- no more than the limit was taken
 pub record TakesFew (old new : Option (List ℕ)) (limit : ℕ) : Type 0 where

@@ -1,4 +1,4 @@
--- The spelling of a key: `-` for the empty one, else its bytes in hexadecimal digits of either case (own choice).
+-- The spelling of a key: its bytes in hexadecimal digits of either case, or `-` for the empty one, which no digits spell too (own choice).
 use Rattle.std.specs.Prelude.{ℕ, List, [], codes, Option, Some, None, Result, Ok, Err, if◌then◌else◌}
 use Rattle.std.specs.Str.{bytes_eq}
 use Rattle.hex.specs.Hex.{decode_of}

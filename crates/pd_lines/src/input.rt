@@ -1,4 +1,4 @@
-ghost use Rattle.std.specs.Prelude.{◌≡◌, IfOk, IsErrOf};
+ghost use Rattle.std.specs.Prelude.{◌≡◌, ◌+◌, IfOk, IsErrOf};
 ghost use Rattle.pd_lines.specs.Input.{HasRefusalCause, ReadsWhole, TakesFew, TakesMore};
 
 use pd_io::Source;
@@ -28,6 +28,7 @@ pub fn read_all<S: Source>(
     ensures ok { IfOk result (λ text. ReadsWhole (S.left source.old) (S.left source.new) limit text) }
     ensures too_long { IsErrOf result ReadRefusal.TooLong → TakesMore (S.left source.old) (S.left source.new) limit }
     ensures read_fault { IsErrOf result ReadRefusal.ReadFault → TakesFew (S.left source.old) (S.left source.new) limit }
+    ensures asked { TakesFew (S.left source.old) (S.left source.new) (limit + 4096) }
     ensures cause { HasRefusalCause (S.faults source.old) (S.faults source.new) result }
 {
     let mut text = Vec::new(alloc);

@@ -8,7 +8,7 @@ mod output;
 mod tests;
 mod words;
 
-pub use hexadecimal::key;
+pub use hexadecimal::{key, keys_are_spelled_in_hexadecimal};
 pub use input::{ReadRefusal, read_all};
 pub use output::put_all;
 pub use words::{number, spells_its_number};
