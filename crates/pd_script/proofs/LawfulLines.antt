@@ -8,11 +8,11 @@ use Rattle.std.specs.Ordering.{match_ordering, nat_cmp}
 use Rattle.std.proofs.lemmas.Bool.Decides.{nat_tests}
 use Rattle.std.proofs.lemmas.List.Elements.{All-append, All-cons, All-from_recursion, All-map, All-nil, Contains-append_left, Contains-append_right}
 use Rattle.std.proofs.lemmas.List.Kept.{AllPairs-cons}
-use Rattle.pd_types.specs.declared.request.Request.{Request}
-use Rattle.pd_types.specs.declared.request.Request.TheVariants.{Hello, Alive, Beat, Term as BeginTerm, Retire}
 use Rattle.pd_script.specs.Grammar.{AtFault, and_event, and_line, events_from, raw_content}
 use Rattle.pd_script.specs.Lawful.{AreAtMost, IsGreatest, actor_in, clients_named, drivers_named, speaking}
-use Rattle.pd_script.specs.Scripts.{act_by, act_of, actor_by, actor_of, client_of, driver_of, greatest, line_of, speaker, store_of, stores_from, stores_in, with_stores}
+use Rattle.pd_types.specs.declared.oracle.Actor.{Actor}
+use Rattle.pd_types.specs.declared.oracle.Actor.TheVariants.{Driver as ByDriver, Client as ByClient, Store as ByStore}
+use Rattle.pd_script.specs.Scripts.{act_by, act_of, actor_by, actor_of, client_of, driver_of, greatest, line_of, asker, store_in, store_of, stores_from, stores_in, with_stores}
 use Rattle.pd_script.specs.Table.{row}
 use Rattle.pd_script.specs.Words.{RawLine}
 use Rattle.pd_script.specs.declared.act.Act.{Act}
@@ -246,16 +246,14 @@ step_silent Look n = refl
 step_silent Arm n = refl
 step_silent Draw n = refl
 
-request_has : (known : List ℕ) (request : Request) → AllByRecursion (Contains (with_stores known (speaker request))) (speaker request)
-request_has known (Hello store moment address labels) = (inserted store known, tt)
-request_has known (Alive store moment) = (inserted store known, tt)
-request_has known (Beat store moment beat) = (inserted store known, tt)
-request_has known (BeginTerm term moment) = tt
-request_has known Retire = tt
+asker_has : (known : List ℕ) (actor : Actor) → AllByRecursion (Contains (with_stores known (store_in actor))) (store_in actor)
+asker_has known (ByDriver driver) = tt
+asker_has known (ByClient client) = tt
+asker_has known (ByStore store) = (inserted store known, tt)
 
 event_has : (known : List ℕ) (e : Event) → AllByRecursion (Contains (with_stores known (store_of e))) (speaking (act_of e))
 event_has known (Step verb numbers) = subst (λ (l : List ℕ). AllByRecursion (Contains known) l) (sym (step_silent verb numbers)) tt
-event_has known (Ask driver request) = request_has known request
+event_has known (Ask driver request) = asker_has known (asker driver request)
 
 all_have : (known more numbers : List ℕ) → ((y : ℕ) → Contains known y → Contains more y) → AllByRecursion (Contains known) numbers → AllByRecursion (Contains more) numbers
 all_have known more [] keeps all = tt

@@ -2,6 +2,7 @@ pub mod Cuts
 pub mod Cutting
 pub mod Formed
 pub mod Greatest
+pub mod Joined
 pub mod Lawful
 pub mod LawfulLines
 pub mod Readings

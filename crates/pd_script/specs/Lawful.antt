@@ -4,7 +4,7 @@ use Rattle.std.specs.Prelude.{◌≡◌, ◌⊎◌, ℕ, ◌<◌, ◌≤◌, ◌
 use Rattle.pd_types.specs.declared.oracle.Actor.{Actor}
 use Rattle.pd_types.specs.declared.oracle.Actor.TheVariants.{Driver, Client}
 use Rattle.pd_script.specs.Formed.{IsAsked}
-use Rattle.pd_script.specs.Scripts.{as_store, speaker}
+use Rattle.pd_script.specs.Scripts.{asker, store_in}
 use Rattle.pd_script.specs.Table.{is_misplaced}
 use Rattle.pd_script.specs.declared.act.Act.{Act}
 use Rattle.pd_script.specs.declared.act.Act.TheVariants.{Cell, Lead, Tick, Resign, Take, Tell, Hear, Read, Campaign, Save, Raise, Publish, Probe, Look, Arm, Draw, Ask}
@@ -76,10 +76,10 @@ IsFormed _ = Unit {0}
 
 -- the store that speaks in an act, where one does
 abbrev pub speaking : Act → List ℕ
-speaking (Ask driver request) = speaker request
+speaking (Ask driver request) = store_in (asker driver request)
 speaking _ = []
 
--- who acts: no one opens the cell, a driver takes its steps, a client draws and tells, and a store asks
+-- who acts: no one opens the cell, a driver takes its steps, a client draws and tells, and a request has its asker
 abbrev pub actor_in : Act → Option Actor
 actor_in (Cell saved term) = None
 actor_in (Lead driver now) = Some (Driver driver)
@@ -97,7 +97,7 @@ actor_in (Probe driver now) = Some (Driver driver)
 actor_in (Look client driver) = Some (Client client)
 actor_in (Arm client n) = Some (Client client)
 actor_in (Draw client) = Some (Client client)
-actor_in (Ask driver request) = as_store (speaker request)
+actor_in (Ask driver request) = Some (asker driver request)
 
 -- the drivers that an act names
 abbrev pub drivers_named : Act → List ℕ

@@ -2,6 +2,7 @@ pub mod Asks
 pub mod Formed
 pub mod Forms
 pub mod Grammar
+pub mod Joining
 pub mod Lawful
 pub mod Numbering
 pub mod Places

@@ -96,18 +96,19 @@ greatest_in at (One p) n = at p n.first
 greatest_in at (Two p q) n = max (at p n.first) (at q n.second)
 greatest_in at (Three p q r) n = max (max (at p n.first) (at q n.second)) (at r n.third)
 
--- the store that speaks; none where no store does
-abbrev pub speaker : Request → List ℕ
-speaker (Hello store moment address labels) = store ∷ []
-speaker (Alive store moment) = store ∷ []
-speaker (Beat store moment beat) = store ∷ []
-speaker (BeginTerm term moment) = []
-speaker Retire = []
+-- Who asks a request of this driver's cluster: the store that says it, or the driver itself
+abbrev pub asker : ℕ → Request → Actor
+asker driver (Hello store moment address labels) = ByStore store
+asker driver (Alive store moment) = ByStore store
+asker driver (Beat store moment beat) = ByStore store
+asker driver (BeginTerm term moment) = ByDriver driver
+asker driver Retire = ByDriver driver
 
--- the actor of the store that speaks
-abbrev pub as_store : List ℕ → Option Actor
-as_store [] = None
-as_store (store ∷ stores) = Some (ByStore store)
+-- the store that the actor is, where it is one
+abbrev pub store_in : Actor → List ℕ
+store_in (ByDriver driver) = []
+store_in (ByClient client) = []
+store_in (ByStore store) = store ∷ []
 
 -- the greatest driver that an event names
 abbrev pub driver_of : Event → ℕ
@@ -122,12 +123,12 @@ client_of (Ask driver request) = 0
 -- the store that speaks in an event, where there is one
 abbrev pub store_of : Event → List ℕ
 store_of (Step verb numbers) = []
-store_of (Ask driver request) = speaker request
+store_of (Ask driver request) = store_in (asker driver request)
 
 -- who acts in an event
 abbrev pub actor_of : Event → Option Actor
 actor_of (Step verb numbers) = actor_by (row verb).places numbers
-actor_of (Ask driver request) = as_store (speaker request)
+actor_of (Ask driver request) = Some (asker driver request)
 
 -- what an event does
 abbrev pub act_of : Event → Act

@@ -5,6 +5,7 @@ mod act;
 mod ask;
 mod form;
 mod items;
+mod laws;
 mod limits;
 mod line;
 mod place;
@@ -17,6 +18,8 @@ mod tests;
 mod verb;
 
 pub use act::{Act, Line};
+pub use laws::{each_place_has_its_range, what_is_cut_is_the_whole};
+pub use limits::asker;
 pub use place::Place;
 pub use reading::read_script;
 pub use refusal::{Limited, Reason, ScriptRefusal};

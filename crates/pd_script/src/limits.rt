@@ -1,6 +1,6 @@
 // The limits of a script, and the lines of its events.
-ghost use Rattle.std.specs.Prelude.{◌≡◌, ◌≤◌, IfOk, option_to_list};
-ghost use Rattle.pd_script.specs.Scripts.{act_by, act_of, acting, actor_by, actor_of, broken_by, client_of, driver_of, greatest, greatest_in, if_client, if_driver, line_of, speaker, store_of, stores_in};
+ghost use Rattle.std.specs.Prelude.{◌≡◌, ◌≤◌, ℕ, IfOk, option_to_list};
+ghost use Rattle.pd_script.specs.Scripts.{act_by, act_of, acting, actor_by, actor_of, broken_by, client_of, driver_of, greatest, greatest_in, if_client, if_driver, line_of, asker, store_in, store_of, stores_in};
 ghost use Rattle.pd_script.specs.Table.{row};
 
 use crate::verb::{Event, Numbered, Numbers, Places, Verb};
@@ -20,6 +20,10 @@ pub const MAX_CLIENTS: u64 = 64;
 
 /// How many stores speak at most.
 pub const MAX_STORES: u64 = 256;
+
+const _: () = prove!(MAX_EVENTS == 65_536 && MAX_STORES == 256);
+
+const _: () = prove!(MAX_DRIVERS == 7 && MAX_CLIENTS == 64);
 
 /// A limit that is broken, and what was counted.
 #[derive(Clone, Copy, Debug, PartialEq, Eq)]
@@ -74,9 +78,20 @@ fn client_in(places: Places, n: Numbers) -> u64
     }
 }
 
-// The store that speaks in a request, where one does.
+/// Who asks a request of this driver's cluster: the store that says it, or the driver itself.
+pub fn asker(driver: u8, request: &Request) -> Actor
+    ensures value { result ≡ asker driver request.now }
+{
+    match request {
+        Request::Hello { store, .. } | Request::Alive { store, .. } | Request::Beat { store, .. } =>
+            { Actor::Store(*store) }
+        Request::Term { .. } | Request::Retire => Actor::Driver(driver),
+    }
+}
+
+// The store that says a request, where one does.
 fn speaker(request: &Request) -> Option<u64>
-    ensures value { option_to_list result ≡ speaker request.now }
+    ensures value { (driver : ℕ) → option_to_list result ≡ store_in (asker driver request.now) }
 {
     match request {
         Request::Hello { store, .. } | Request::Alive { store, .. } | Request::Beat { store, .. } =>
@@ -240,7 +255,7 @@ fn actor(event: &Event) -> Option<Actor>
 {
     match event {
         Event::Step { verb, numbers } => step_actor(verb.places(), *numbers),
-        Event::Ask { request, .. } => speaker(request).map(Actor::Store),
+        Event::Ask { driver, request } => Some(asker(*driver as u8, request)),
     }
 }
 

@@ -1,5 +1,5 @@
 // A script from its text.
-ghost use Rattle.std.specs.Prelude.{◌≡◌, ◌≤◌, ◌++◌, All, IfErr, IfOk, OnOk, length, map};
+ghost use Rattle.std.specs.Prelude.{◌≡◌, ◌<◌, ◌≤◌, ◌-◌, ◌^◌, ◌++◌, All, IfErr, IfOk, OnOk, length, map};
 ghost use Rattle.pd_script.specs.Grammar.{events_of};
 ghost use Rattle.pd_script.specs.Lawful.{IsLawfulScript};
 ghost use Rattle.pd_script.specs.Refusals.{IsFault, IsRefusal, kept};
@@ -27,7 +27,7 @@ fn keep(events: &mut Vec<Numbered>, number: u32, said: Option<Event>) -> Result<
 
 // The events of a text, or its first line at fault.
 fn read_events(alloc: Global, text: &[u8], mode: Mode) -> Result<Vec<Numbered>, ScriptRefusal>
-    requires { length text.now ≤ 16777216 }
+    requires { length text.now < 2 ^ 32 - 1 }
     ensures ok { IfOk result (λ events. events_of mode text.now ≡ Ok events.items) }
     ensures refused { IfErr result (IsFault (events_of mode text.now)) }
 {
@@ -72,10 +72,10 @@ fn lines_of(alloc: Global, events: Vec<Numbered>) -> Result<Vec<Line>, NoMemory>
     Ok(lines)
 }
 
-/// The script of a text of at most 16,777,216 bytes, for a mode. The whole text is tested against
+/// The script of a text of less than 2^32 - 1 bytes (lines are counted in 32 bits), for a mode. The whole text is tested against
 /// the grammar before the limits.
 pub fn read_script(alloc: Global, text: &[u8], mode: Mode) -> Result<Script, ScriptRefusal>
-    requires { length text.now ≤ 16777216 }
+    requires { length text.now < 2 ^ 32 - 1 }
     ensures ok { IfOk result (λ script. script_of mode text.now ≡ Ok script) }
     ensures lawful { IfOk result (IsLawfulScript mode) }
     ensures refused { IfErr result (IsRefusal (script_of mode text.now)) }
