@@ -42,7 +42,7 @@ module _ (k : Setup) (words : List ℕ) (views : List View) (h : History) (a : P
   pub cursor_fits : (d : ℕ) → 0 < d → d ≤ k.drivers → slice_index words (cursor_at d) < 2 ^ 63 + 2 ^ 25
   cursor_fits d pos low = omega (arith, b.cursors d pos low, a.in_time)
 
-  limit_fits : (d : ℕ) → 0 < d → d ≤ k.drivers → slice_index words (limit_at d) < 2 ^ 63
+  pub limit_fits : (d : ℕ) → 0 < d → d ≤ k.drivers → slice_index words (limit_at d) < 2 ^ 63
   limit_fits d pos low = dite (ℕ_discrete (slice_index words (limit_at d)) 0)
       (λ none. omega arith)
       (λ some_limit.
@@ -54,7 +54,7 @@ module _ (k : Setup) (words : List ℕ) (views : List View) (h : History) (a : P
     pub cell_fits : CellFits v
     cell_fits = let mine = a.each id v at live in record { saved = omega (arith, mine.saved, a.in_time); term = omega (arith, mine.term.1, a.in_terms) }
 
-    held_from : (o : Option Claim) → v.latest ≡ o → 0 < v.driver → ((held_or o).hi ≤ h.newest.window.hi) × ((held_or o).term ≤ h.newest.window.term)
+    pub held_from : (o : Option Claim) → v.latest ≡ o → 0 < v.driver → ((held_or o).hi ≤ h.newest.window.hi) × ((held_or o).term ≤ h.newest.window.term)
     held_from None none pos = (omega arith, omega arith)
     held_from (Some w) has pos =
         let own = at_some v.latest (λ w. (w.window.driver ≡ v.driver) × (w.window.term ≤ v.cell.term) × (w.window.term ≡ v.cell.term → v.cell.saved ≡ w.window.hi) × All (λ (x : Claim). x.window.driver ≡ v.driver → x.window.term < w.window.term) v.older) (a.each id v at live).latest w has in

@@ -17,6 +17,7 @@ use Rattle.tso_core.specs.declared.reply.Due.{Due}
 use Rattle.tso_core.specs.declared.reply.Due.TheVariants.{Rest, Campaign, Save, Raise, Publish}
 use Rattle.tso_core.specs.declared.reply.Reply.TheVariants.{TermsSpent, ClockRange, CellRead, Claimed, Beaten, Saved, Lost, Raised, Published, Probed, Idle, Resigned}
 use Rattle.tso_core.specs.Due.{at_rest}
+use Rattle.tso_model.specs.declared.plan.TheConstants.{AHEAD_MS}
 use Rattle.tso_model.specs.Plan.{end_of, past_clock, lead_next, tick_next, saves_for}
 use Rattle.tso_core.specs.Whole.{Whole, view_at, turn_at, found_by, made, turned}
 use Rattle.tso_core.specs.declared.decided.Decided.{Decided}
@@ -51,7 +52,7 @@ saved_raise next v (Some c) is has may opened =
     record {
       holds = may.holds;
       below = omega arith;
-      start = by_eq (λ b. (cond b false v.marked ≡ true) ⊎ ((cond b (max (end_of next - 3000) w.hi) w.lo < end_of next) × (cond b (max (end_of next - 3000) w.hi) w.lo ≤ next))) w.lo w.hi
+      start = by_eq (λ b. (cond b false v.marked ≡ true) ⊎ ((cond b (max (end_of next - AHEAD_MS) w.hi) w.lo < end_of next) × (cond b (max (end_of next - AHEAD_MS) w.hi) w.lo ≤ next))) w.lo w.hi
           (λ shut. ⊎_elim (λ marked. absurd (omega (arith, opened marked, shut, ap (λ x. x.lo) same, ap (λ x. x.hi) same))) (λ start. let most : w.hi ≤ next = omega (arith, start.1, ap (λ x. x.hi) same) in inr (omega arith, omega arith)) may.start)
           (λ apart. ⊎_elim (λ marked. inl marked) (λ start. absurd (apart (omega (arith, start.0, ap (λ x. x.lo) same, ap (λ x. x.hi) same)))) may.start);
     }
@@ -110,9 +111,9 @@ module _ (w : Whole) (s : IsSound w) (d : ℕ) (pos : 0 < d) (low : d ≤ w.setu
   pub read_sound : (now : ℕ) → (turn_at w d).due ≡ Rest → IsSound (read_of w d now).after
   read_sound now due =
       let n = found_by w d LoadCell in
-      let settled = stands Rest due in
+      let settled = (stands Rest due).1 in
       read_cases (cell_of n) now (λ turn. IsSound (turned (made w d LoadCell) d turn))
-      (kept LoadCell is_driver at_rest settled)
+      (kept LoadCell is_driver at_rest (refl, settled))
       (λ apart clock. kept LoadCell is_driver (record { due = Campaign; next = lead_next (cell_of n).saved now; publishes = true })
       (record { settled = settled; term = omega (arith, apart); above = omega arith; clock = clock }))
 
@@ -133,7 +134,7 @@ module _ (w : Whole) (s : IsSound w) (d : ℕ) (pos : 0 < d) (low : d ≤ w.setu
       (by_bool (λ b. StandsAt (cond {A = Decided} b (record { reply = Claimed (v.cell.term + 1); turn = record { due = Save; next = next; publishes = true } }) (record { reply = Beaten (cell_of n); turn = at_rest })).turn.due
       (cond {A = Decided} b (record { reply = Claimed (v.cell.term + 1); turn = record { due = Save; next = next; publishes = true } }) (record { reply = Beaten (cell_of n); turn = at_rest })).turn (cond b (claimed v) (knows (cell_of n) v))) (eqb n (cell_word v.cell))
       (λ _. record { holds = refl; above = omega (arith, may.above); clock = may.clock; start = inr (refl, omega (arith, may.above)) })
-      (λ _. may.settled))
+      (λ _. (refl, may.settled)))
 
   -- a save
   opened : (view_at w d).marked ≡ true → IsOpen (held (view_at w d))
@@ -155,7 +156,7 @@ module _ (w : Whole) (s : IsSound w) (d : ℕ) (pos : 0 < d) (low : d ≤ w.setu
       (by_bool (λ b. StandsAt (cond {A = Decided} b (record { reply = Saved (end_of next); turn = record { due = Raise; next = next; publishes = true } }) (record { reply = Lost (cell_of n); turn = record { due = Publish; next = 0; publishes = false } })).turn.due
       (cond {A = Decided} b (record { reply = Saved (end_of next); turn = record { due = Raise; next = next; publishes = true } }) (record { reply = Lost (cell_of n); turn = record { due = Publish; next = 0; publishes = false } })).turn (cond b (saves (end_of next) v v.latest) (knows (cell_of n) v))) (eqb n (packed (held v).hi (held v).term))
       (λ _. saved_raise next v v.latest refl (fits.holds may.holds) may opened)
-      (λ _ never. false_true never))
+      (λ _. (refl, λ never. false_true never)))
 
   -- a raise
   may_raise_step : (turn_at w d).due ≡ Raise → May w.setup (its_raise w d) (view_at w d)
@@ -170,23 +171,25 @@ module _ (w : Whole) (s : IsSound w) (d : ℕ) (pos : 0 < d) (low : d ≤ w.setu
       let next = (turn_at w d).next in
       let marked : marks (next * 262144) v ≡ true = marks_next next v (stands Raise due) in
       by_bool (λ b. IsSound (turned (made w d (its_raise w d)) d (cond b (record { due = Publish; next = 0; publishes = true }) at_rest))) (turn_at w d).publishes
-      (λ _. kept (its_raise w d) (may_raise_step due) (record { due = Publish; next = 0; publishes = true }) (λ _. marked))
-      (λ _. kept (its_raise w d) (may_raise_step due) at_rest (λ _. marked))
+      (λ _. kept (its_raise w d) (may_raise_step due) (record { due = Publish; next = 0; publishes = true }) (refl, λ _. marked))
+      (λ _. kept (its_raise w d) (may_raise_step due) at_rest (refl, λ _. marked))
 
   -- a publish
   may_publish_step : (turn_at w d).due ≡ Publish → May w.setup (its_publish w d) (view_at w d)
   may_publish_step due = by_bool (λ b. May w.setup (cond b StoreLimit ClearLimit) (view_at w d)) (turn_at w d).publishes
-      (λ publishes. let marked = stands Publish due publishes in let open_mark = fits.marked marked in (is_driver, open_mark.0, marked, fits.holds open_mark.0, open_mark.1))
+      (λ publishes. let marked = (stands Publish due).1 publishes in let open_mark = fits.marked marked in (is_driver, open_mark.0, marked, fits.holds open_mark.0, open_mark.1))
       (λ _. is_driver)
 
   pub may_publish : (turn_at w d).due ≡ Publish → MayMake w d (its_publish w d)
   may_publish due = may_make (its_publish w d) (may_publish_step due)
 
   pub publish_sound : (turn_at w d).due ≡ Publish → IsSound (publish_of w d).after
-  publish_sound due = kept (its_publish w d) (may_publish_step due) at_rest
-      (by_bool (λ b. IsSettled (view_after (cond b StoreLimit ClearLimit) (found_by w d (its_publish w d)) (view_at w d))) (turn_at w d).publishes
-      (λ publishes holds. stands Publish due publishes)
-      (λ _ holds. false_true holds))
+  publish_sound due = kept (its_publish w d) (may_publish_step due) at_rest (
+    refl,
+    by_bool (λ b. IsSettled (view_after (cond b StoreLimit ClearLimit) (found_by w d (its_publish w d)) (view_at w d))) (turn_at w d).publishes
+        (λ publishes holds. (stands Publish due).1 publishes)
+        (λ _ holds. false_true holds),
+  )
 
   -- a probe and a resignation
   pub may_probe : MayMake w d (RaiseCursor 0)
@@ -196,11 +199,11 @@ module _ (w : Whole) (s : IsSound w) (d : ℕ) (pos : 0 < d) (low : d ≤ w.setu
   probe_sound now due =
       let v = view_at w d in
       let n = found_by w d (RaiseCursor 0) in
-      let settled = stands Rest due in
+      let settled = (stands Rest due).1 in
       by_bool (λ b. IsSound (cond b (Rattle.tso_core.specs.Steps.decided (made w d (RaiseCursor 0)) d (probe_decides (held v).hi now n)) (record { reply = Rattle.tso_core.specs.declared.reply.Reply.TheVariants.NotLeading; after = w })).after) v.holds
       (λ holds. let marked : marks 0 v ≡ true = marks_kept 0 v (settled holds) in
       goes_cases (held v).hi n (tick_next n (held v).hi now) (λ turn. IsSound (turned (made w d (RaiseCursor 0)) d turn))
-      (kept (RaiseCursor 0) (is_driver, inl refl) at_rest (λ _. marked))
+      (kept (RaiseCursor 0) (is_driver, inl refl) at_rest (refl, λ _. marked))
       (λ next above clock. kept (RaiseCursor 0) (is_driver, inl refl) (record { due = Save; next = next; publishes = true }) (record { holds = holds; above = above; clock = clock; start = inl marked }))
       (λ next below. kept (RaiseCursor 0) (is_driver, inl refl) (record { due = Raise; next = next; publishes = false }) (record { holds = holds; below = below; start = inl marked })))
       (λ _. s)
@@ -210,7 +213,7 @@ module _ (w : Whole) (s : IsSound w) (d : ℕ) (pos : 0 < d) (low : d ≤ w.setu
 
   pub resign_sound : IsSound (resign_of w d).after
   resign_sound = by_bool (λ b. IsSound (cond b (Rattle.tso_core.specs.Steps.decided (made w d ClearLimit) d (record { reply = Resigned; turn = at_rest })) (record { reply = Rattle.tso_core.specs.declared.reply.Reply.TheVariants.NotLeading; after = w })).after) (view_at w d).holds
-      (λ _. kept ClearLimit is_driver at_rest (λ holds. false_true holds))
+      (λ _. kept ClearLimit is_driver at_rest (refl, λ holds. false_true holds))
       (λ _. s)
 
   -- what a driver holds is in range, and so is where a raise goes

@@ -1,5 +1,5 @@
 -- What an answer says: an `again` passed, and a step that is an actor's next is never out of turn.
-use Rattle.std.proofs.Common.{◌≡◌, ℕ, ◌+◌, ◌/◌, ◌%◌, Bool, true, false, cond, refl, sym, ap, subst, ◌∙◌}
+use Rattle.std.proofs.Common.{◌≡◌, ℕ, ◌+◌, ◌/◌, ◌%◌, List, [], ◌∷◌, Bool, true, false, cond, refl, sym, ap, subst, ◌∙◌}
 use Rattle.std.specs.Prelude.{Option, None, Some, nat_eq, nat_lt, ◌==◌}
 use Rattle.pd_types.specs.declared.oracle.CellWord.{CellWord}
 use Rattle.pd_types.specs.declared.oracle.Seen.{Seen}
@@ -11,17 +11,19 @@ use Rattle.tso_model.specs.declared.step.WordStep.TheVariants.{LoadCell, ClaimTe
 use Rattle.tso_model.specs.Words.{packed, cell_of, cell_word, passes}
 use Rattle.tso_model.specs.Steps.{held, hand, batch_of}
 use Rattle.tso_core.specs.declared.decided.Decided.{Decided}
+use Rattle.tso_core.specs.declared.reply.Due.{Due}
 use Rattle.tso_core.specs.declared.reply.Due.TheVariants.{Rest, Campaign, Save, Raise, Publish, Arm, Draw}
 use Rattle.tso_core.specs.declared.reply.Kind.{Kind}
 use Rattle.tso_core.specs.declared.reply.Kind.TheVariants.{Read, Campaign as ToCampaign, Save as ToSave, Probe, Raise as ToRaise, Publish as ToPublish, Resign, Look, Arm as ToArm, Draw as ToDraw}
 use Rattle.tso_core.specs.declared.reply.Reply.{Reply}
-use Rattle.tso_core.specs.declared.reply.Reply.TheVariants.{Beaten, Lost, TermsSpent, ClockRange, NotLeading, Resigned, Got, Again, NotLeader, Stale, OutOfTurn, CellRead, Claimed, Saved, Probed, Looked, Armed}
+use Rattle.tso_core.specs.declared.reply.Reply.TheVariants.{Beaten, Lost, TermsSpent, ClockRange, NotLeading, Resigned, Got, Again, NotLeader, Stale, Told, OutOfTurn, CellRead, Claimed, Saved, Probed, Looked, Armed}
 use Rattle.tso_core.specs.Due.{same_due, due_for, at_rest}
 use Rattle.tso_model.specs.Plan.{end_of, past_clock, lead_next, tick_next, saves_for}
-use Rattle.tso_core.specs.Whole.{Whole, place_of_client, view_at, turn_at, found_by, made}
-use Rattle.tso_core.specs.Steps.{Stepped, out_of_turn, decided, read_decides, campaign_decides, save_decides, moves_to, goes_to, probe_decides, looked_reply, arm_reply, draw_reply, look_of, arm_of, draw_of, due_of, driver_step, client_step, step_of, its_save}
-use Rattle.tso_core.specs.Rows.{due_at, take_armed, take_looked, take_of}
-use Rattle.tso_core.specs.Laws.{Makes, IsNext, AgainPassed, TakeAgainPassed, RefusesOutOfTurn}
+use Rattle.tso_core.specs.Whole.{Whole, place_of_client, view_at, turn_at, post_at, found_by, made}
+use Rattle.tso_core.specs.Steps.{Stepped, out_of_turn, decided, read_decides, campaign_decides, save_decides, moves_to, goes_to, probe_decides, looked_reply, arm_reply, draw_reply, read_of, campaign_of, save_of, raise_of, probe_of, resign_of, look_of, arm_of, draw_of, due_of, driver_step, client_step, step_of, its_save}
+use Rattle.tso_core.specs.Rows.{due_at, finished, won, moved, lead_read, lead_claimed, lead_saved, tick_probed, tick_saved, take_armed, take_looked, take_of}
+use Rattle.tso_core.specs.Notes.{note_left, heard_from}
+use Rattle.tso_core.specs.Laws.{Makes, IsNext, IsInTurn, ComesAtRest, AgainPassed, TakeAgainPassed, RefusesOutOfTurn}
 use Rattle.tso_core.proofs.Dues.{is_due, is_same}
 
 -- of an `again` that it passed, of a refusal out of turn P, and of a granted batch Q
@@ -124,6 +126,43 @@ take_fair w c d n =
 pub take_again_passed : (w : Whole) → TakeAgainPassed w
 take_again_passed w c d m at hi n is = subst (λ (r : Reply). Fair (Unit {0}) (Unit {0}) r) is (take_fair w c d m)
 
+-- a step of a driver that is one of its kinds, and a whole call that is made, are never out of turn
+made_fair : (w : Whole) (d : ℕ) (kind : Kind) → Makes (Driver d) kind → Fair ⊥ (Unit {0}) (driver_step w d (turn_at w d).due kind).reply
+made_fair w d kind makes = driver_fair ⊥ (Unit {0}) w d kind (λ none. none makes)
+
+lead_made : (w : Whole) (d now : ℕ) → Fair ⊥ (Unit {0}) (lead_read d (read_of w d now)).reply
+lead_made w d now =
+    fair_stepped ⊥ (Unit {0}) (same_due (turn_at (read_of w d now).after d).due Campaign) (lead_claimed d (campaign_of (read_of w d now).after d)) (read_of w d now) (claimed_made (read_of w d now).after) (made_fair w d (Read now) tt)
+  where
+    saved_made : (u : Whole) → Fair ⊥ (Unit {0}) (lead_saved d (save_of u d)).reply
+    saved_made u = fair_stepped ⊥ (Unit {0}) (same_due (turn_at (save_of u d).after d).due Raise) (won d (finished d (raise_of (save_of u d).after d).after)) (record { reply = (save_of u d).reply; after = finished d (save_of u d).after }) tt (made_fair u d ToSave tt)
+
+    claimed_made : (u : Whole) → Fair ⊥ (Unit {0}) (lead_claimed d (campaign_of u d)).reply
+    claimed_made u = fair_stepped ⊥ (Unit {0}) (same_due (turn_at (campaign_of u d).after d).due Save) (lead_saved d (save_of (campaign_of u d).after d)) (campaign_of u d) (saved_made (campaign_of u d).after) (made_fair u d ToCampaign tt)
+
+tick_made : (w : Whole) (d now : ℕ) → Fair ⊥ (Unit {0}) (tick_probed d (probe_of w d now)).reply
+tick_made w d now =
+    fair_stepped ⊥ (Unit {0}) (same_due (turn_at u d).due Save) (tick_saved d (turn_at u d).next (save_of u d)) (cond (same_due (turn_at u d).due Raise) (tick_saved d (turn_at u d).next (probe_of w d now)) (probe_of w d now))
+    (saved_made (save_of u d) (made_fair u d ToSave tt))
+    (fair_stepped ⊥ (Unit {0}) (same_due (turn_at u d).due Raise) (tick_saved d (turn_at u d).next (probe_of w d now)) (probe_of w d now) (saved_made (probe_of w d now) (made_fair w d (Probe now) tt)) (made_fair w d (Probe now) tt))
+  where
+    u : Whole
+    u = (probe_of w d now).after
+
+    saved_made : (r : Stepped) → Fair ⊥ (Unit {0}) r.reply → Fair ⊥ (Unit {0}) (tick_saved d (turn_at (probe_of w d now).after d).next r).reply
+    saved_made r fair = fair_stepped ⊥ (Unit {0}) (same_due (turn_at r.after d).due Raise) (moved d (turn_at (probe_of w d now).after d).next (finished d (raise_of r.after d).after)) (record { reply = r.reply; after = finished d r.after }) tt fair
+
+take_made : (w : Whole) (c d n : ℕ) → Fair ⊥ (Unit {0}) (take_looked c n (look_of w c d)).reply
+take_made w c d n =
+    fair_stepped ⊥ (Unit {0}) (same_due (due_at (look_of w c d).after c) Arm) (take_armed c (arm_of (look_of w c d).after c n)) (look_of w c d)
+    (fair_stepped ⊥ (Unit {0}) (same_due (due_at (arm_of (look_of w c d).after c n).after c) Draw) (draw_of (arm_of (look_of w c d).after c n).after c) (arm_of (look_of w c d).after c n)
+    (client_fair ⊥ (Unit {0}) (arm_of (look_of w c d).after c n).after c ToDraw (λ none. none tt) tt) (client_fair ⊥ (Unit {0}) (look_of w c d).after c (ToArm n) (λ none. none tt) tt))
+    (client_fair ⊥ (Unit {0}) w c (Look d) (λ none. none tt) tt)
+
+heard_made : (w : Whole) (c : ℕ) (post : List ℕ) → Fair ⊥ (Unit {0}) (heard_from w c post).reply
+heard_made w c [] = tt
+heard_made w c (note ∷ rest) = tt
+
 module _ (w : Whole) where
   driver_out : (d : ℕ) (kind : Kind) → ¬ Makes (Driver d) kind → driver_step w d (turn_at w d).due kind ≡ out_of_turn w (turn_at w d).due
   driver_out d (Read now) none = absurd (none tt)
@@ -165,8 +204,23 @@ module _ (w : Whole) where
   next_fair (Client c) kind next = subst (λ (b : Bool). Fair ⊥ (Unit {0}) (cond b (client_step w c (due_at w c) kind) (out_of_turn w (due_at w c))).reply) (sym (is_same (due_for kind) (due_at w c) next.0)) (client_fair ⊥ (Unit {0}) w c kind (λ none. none next.1) tt)
   next_fair (Store s) kind next = absurd next.1
 
+  in_turn : (r : Reply) → Fair ⊥ (Unit {0}) r → IsInTurn r
+  in_turn r fair due is = subst (λ (x : Reply). Fair ⊥ (Unit {0}) x) is fair
+
+  at_rest_else : (due : Due) (x : Stepped) → (due ≡ Rest → Fair ⊥ (Unit {0}) x.reply) → ComesAtRest w due (cond (same_due due Rest) x (out_of_turn w due))
+  at_rest_else due x fair = record {
+    refused = λ busy. bool_cases (cond (same_due due Rest) x (out_of_turn w due) ≡ out_of_turn w due) (same_due due Rest) (λ rest. absurd (busy (is_due due Rest rest))) (λ not. ap (λ (b : Bool). cond b x (out_of_turn w due)) not);
+    made = λ rest. in_turn (cond (same_due due Rest) x (out_of_turn w due)).reply (subst (λ (b : Bool). Fair ⊥ (Unit {0}) (cond b x (out_of_turn w due)).reply) (sym (is_same due Rest rest)) (fair rest));
+  }
+
   pub refuses_out_of_turn : RefusesOutOfTurn w
   refuses_out_of_turn = record {
     refused = refused;
-    made = λ actor kind next is. subst (λ (r : Reply). Fair ⊥ (Unit {0}) r) is (next_fair actor kind next);
+    made = λ actor kind next. in_turn (step_of w actor kind).reply (next_fair actor kind next);
+    lead = λ d now. at_rest_else (turn_at w d).due (lead_read d (read_of w d now)) (λ _. lead_made w d now);
+    tick = λ d now. at_rest_else (turn_at w d).due (tick_probed d (probe_of w d now)) (λ _. tick_made w d now);
+    resign = λ d. at_rest_else (turn_at w d).due (resign_of w d) (λ _. made_fair w d Resign tt);
+    take = λ c d n. at_rest_else (due_at w c) (take_looked c n (look_of w c d)) (λ _. take_made w c d n);
+    tell = λ from to. at_rest_else (due_at w from) (record { reply = Told; after = note_left w from to }) (λ _. tt);
+    hear = λ c. at_rest_else (due_at w c) (heard_from w c (post_at w c)) (λ _. heard_made w c (post_at w c));
   }

@@ -1,5 +1,5 @@
 -- What every sound state says of its windows, batches and cursors, and of a batch that a client gets.
-use Rattle.std.proofs.Common.{◌≡◌, ℕ, ◌<◌, Bool, true, false, cond, List, ◌∷◌, refl, sym, ap, subst, ◌∙◌, inl, inr, ⊎_elim, arith}
+use Rattle.std.proofs.Common.{◌≡◌, ℕ, ◌<◌, Bool, true, false, cond, List, ◌∷◌, refl, sym, ap, subst, ◌∙◌, arith}
 use Rattle.pd_types.specs.declared.oracle.Batch.{Batch}
 use Rattle.tso_model.specs.Words.{opening_claim, passes}
 use Rattle.tso_model.specs.Moves.{spent_view}
@@ -53,7 +53,7 @@ module _ (w : Whole) (s : IsSound w) where
         (draws (view_at w (place_of_client w c)) due).0).0
 
     above : IsAbove (view_at w (place_of_client w c)).seen (batch_of (found_by w (place_of_client w c) AddArmed) (view_at w (place_of_client w c)))
-    above = ⊎_elim (λ later. inl later) (λ same. inr (same.0, omega (arith, same.1, (draws (view_at w (place_of_client w c)) due).1))) fresh
+    above = record { term = fresh.0; last = omega (arith, fresh.1, (draws (view_at w (place_of_client w c)) due).1) }
 
     grant : (b : Batch) (test : Bool) → passes (found_by w (place_of_client w c) AddArmed) (hand (view_at w (place_of_client w c))).hi (view_at w (place_of_client w c)).armed ≡ test
         → cond test (Again (found_by w (place_of_client w c) AddArmed) (hand (view_at w (place_of_client w c))).hi (view_at w (place_of_client w c)).armed) (Got (batch_of (found_by w (place_of_client w c) AddArmed) (view_at w (place_of_client w c)))) ≡ Got b → IsGranted w c b

@@ -93,7 +93,7 @@ module _ (k : Setup) (ok : IsSetup k) where
       ∙ get_or-map (client_view k) (numbers_from 1 k.clients) (k.drivers + c - (k.drivers + 1)) 0 spent_view (omega (arith, numbers_length 1 k.clients, pos, low)) ∙ ap (λ (m : ℕ). client_view k m) n
 
   idle_driver : (d : ℕ) → DriverFits d at_rest (driver_view k d)
-  idle_driver d = record { own = record { live = refl; driver = refl; quota = omega arith }; stands = λ holds. absurd (cc holds) }
+  idle_driver d = record { own = record { live = refl; driver = refl; quota = omega arith }; stands = (refl, λ holds. absurd (cc holds)) }
 
   pub opened_sound : IsSound (opened k)
   opened_sound = record {

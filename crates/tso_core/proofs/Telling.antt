@@ -1,6 +1,6 @@
 -- What each call answers and leaves: what its client has seen, and that all others have seen the same as before.
-use Rattle.std.proofs.Common.{◌≡◌, ◌≢◌, ℕ, ◌/◌, ◌%◌, Bool, true, false, cond, List, [], ◌∷◌, refl, sym, ap, subst, ◌∙◌, arith}
-use Rattle.std.specs.Prelude.{nat_eq, nat_lt}
+use Rattle.std.proofs.Common.{◌≡◌, ◌≢◌, ℕ, ◌/◌, ◌%◌, ◌<◌, ◌≤◌, ltb, Bool, true, false, cond, List, [], ◌∷◌, refl, sym, ap, subst, ◌∙◌, arith}
+use Rattle.std.specs.Prelude.{All, nat_eq, nat_lt}
 use mathlib.Core.Logic.{dite}
 use native.Mathlib.Decide.{ℕ_discrete}
 use Rattle.pd_types.specs.declared.oracle.Actor.{Actor}
@@ -13,6 +13,8 @@ use Rattle.tso_model.specs.declared.step.WordStep.{WordStep}
 use Rattle.tso_model.specs.declared.step.WordStep.TheVariants.{LoadCell, ClaimTerm, RaiseCursor, ClearLimit, LoadLimit, ArmCount, AddArmed}
 use Rattle.tso_model.specs.Words.{cell_of, passes}
 use Rattle.tso_model.specs.Sound.{IsSetup}
+use Rattle.tso_model.specs.Moves.{greater}
+use Rattle.tso_model.proofs.Basics.{by_lt}
 use Rattle.tso_model.specs.Steps.{held, hand, batch_of, refused, granted, adds, view_after}
 use Rattle.tso_core.specs.declared.turn.Turn.{Turn}
 use Rattle.tso_core.specs.declared.reply.Due.{Due}
@@ -29,15 +31,17 @@ use Rattle.tso_core.specs.Notes.{tell_of, hear_of, heard_from, note_left}
 use Rattle.tso_core.specs.Sound.{IsSound, HasDriver, HasClient}
 use Rattle.tso_core.specs.Asked.{HasActor, IsAsked, IsCount}
 use Rattle.tso_core.specs.Opened.{opened}
-use Rattle.tso_core.specs.Laws.{Adds, IsAbove, IsFair, Tells, EachCallTells, IsNew, learned, seen_at, client_of}
-use Rattle.tso_core.proofs.Dues.{is_due}
+use Rattle.tso_core.specs.Laws.{Adds, IsAbove, IsFair, Tells, EachCallTells, IsNew, IsUpTo, learned, seen_at, seen_of, seen_by, client_of, driver_of}
+use Rattle.tso_core.proofs.Dues.{is_due, draws}
 use Rattle.tso_core.proofs.Drawn.{inside, look_sound, arm_sound, draw_sound}
 use Rattle.tso_core.proofs.Fair.{Fair, again_passed, take_again_passed}
 use Rattle.tso_core.proofs.Granted.{grants}
 use Rattle.tso_core.proofs.Grown.{batches_grow, takes_grant, lead_quiet, tick_quiet, driver_quiet, look_quiet, arm_quiet, look_sees, arm_sees}
 use Rattle.tso_core.proofs.Kept.{view_here, view_else}
+use Rattle.tso_core.proofs.Risen.{Rises, rises, step_hears, take_hears, tell_hears, hear_hears}
 use Rattle.tso_core.proofs.Started.{client_at, opened_sound}
 use Rattle.tso_core.proofs.Steady.{driver_keeps}
+use Rattle.tso_core.proofs.Windowed.{Shows, step_shows, lead_shows, tick_shows, resign_shows, take_shows, tell_shows, hear_shows}
 use Rattle.tso_core.proofs.Told.{told_sound, heard_sound, old_view, else_view, own_view, is_note}
 
 either : (e c : ℕ) (A : Type 0) → (e ≡ c → A) → (e ≢ c → A) → A
@@ -210,21 +214,35 @@ dull_armed at hi n = dull_cond (passes at hi n) (Again at hi n) (Armed at) (λ _
 out_learns : (w : Whole) (s : IsSound w) (c : ℕ) (due : Due) → Learns w c (out_of_turn w due)
 out_learns w s c due = learns_calm w c (out_of_turn w due) (still w s) (λ _. refl)
 
+-- a batch that is above what was seen is the greater pair
+greater_above : (seen : Seen) (b : Batch) → 0 < b.count → b.count ≤ b.last → IsAbove seen b → greater seen (seen_of b) ≡ seen_of b
+greater_above seen b some most above = by_lt (λ t. cond t (seen_of b) (cond (ltb b.term seen.term) seen (cond (ltb seen.last b.last) (seen_of b) seen)) ≡ seen_of b) seen.term b.term (λ _. refl)
+    (λ low. by_lt (λ t. cond t seen (cond (ltb seen.last b.last) (seen_of b) seen) ≡ seen_of b) b.term seen.term (λ less. absurd (omega (arith, less, above.term)))
+    (λ _. by_lt (λ t. cond t (seen_of b) seen ≡ seen_of b) seen.last b.last (λ _. refl) (λ high. absurd (omega (arith, high, some, most, above.last)))))
+
 -- the steps of a client
 module _ (w : Whole) (s : IsSound w) (c : ℕ) (has : HasClient w.setup c) where
   else_sees : (step : WordStep) (e : ℕ) → e ≢ c → seen_at (made w (place_of_client w c) step) e ≡ seen_at w e
   else_sees step e apart = ap (λ (v : View). v.seen) (view_else w s (place_of_client w c) (place_of_client w e) (view_after step (found_by w (place_of_client w c) step) (view_at w (place_of_client w c))) (λ same. apart (omega (arith, same))))
 
-  drawn_own : (b : Bool) (at hi n : ℕ) (v : View) → (cond b (record (refused at v.armed v) { added = (adds v).added }) (granted at v)).seen ≡ learned (cond b (Again at hi n) (Got (batch_of at v))) v.seen
-  drawn_own true at hi n v = refl
-  drawn_own false at hi n v = refl
+  drawn_own : (b : Bool) (at hi n : ℕ) (v : View) → (b ≡ false → greater v.seen (seen_of (batch_of at v)) ≡ seen_of (batch_of at v)) → (cond b (record (refused at v.armed v) { added = (adds v).added }) (granted at v)).seen ≡ learned (cond b (Again at hi n) (Got (batch_of at v))) v.seen
+  drawn_own true at hi n v above = refl
+  drawn_own false at hi n v above = sym (above refl)
 
-  draw_own : seen_at (draw_of w c).after c ≡ learned (draw_of w c).reply (seen_at w c)
-  draw_own = ap (λ (v : View). v.seen) (view_here w s (place_of_client w c) (view_after AddArmed (found_by w (place_of_client w c) AddArmed) (view_at w (place_of_client w c))) (inside w s c has.pos has.low))
+  -- a batch that is above what was seen is the greater of both
+  draw_above : due_at w c ≡ Draw → (test : Bool) → passes (found_by w (place_of_client w c) AddArmed) (hand (view_at w (place_of_client w c))).hi (view_at w (place_of_client w c)).armed ≡ test → test ≡ false
+      → IsAbove (view_at w (place_of_client w c)).seen (batch_of (found_by w (place_of_client w c) AddArmed) (view_at w (place_of_client w c)))
+  draw_above due test is fits = (grants w s c has due (batch_of (found_by w (place_of_client w c) AddArmed) (view_at w (place_of_client w c)))
+      (ap (λ (b : Bool). cond b (Again (found_by w (place_of_client w c) AddArmed) (hand (view_at w (place_of_client w c))).hi (view_at w (place_of_client w c)).armed) (Got (batch_of (found_by w (place_of_client w c) AddArmed) (view_at w (place_of_client w c))))) (is ∙ fits))).above
+
+  draw_own : due_at w c ≡ Draw → seen_at (draw_of w c).after c ≡ learned (draw_of w c).reply (seen_at w c)
+  draw_own due = ap (λ (v : View). v.seen) (view_here w s (place_of_client w c) (view_after AddArmed (found_by w (place_of_client w c) AddArmed) (view_at w (place_of_client w c))) (inside w s c has.pos has.low))
       ∙ drawn_own (passes (found_by w (place_of_client w c) AddArmed) (hand (view_at w (place_of_client w c))).hi (view_at w (place_of_client w c)).armed) (found_by w (place_of_client w c) AddArmed) (hand (view_at w (place_of_client w c))).hi (view_at w (place_of_client w c)).armed (view_at w (place_of_client w c))
+      (λ fits. greater_above (view_at w (place_of_client w c)).seen (batch_of (found_by w (place_of_client w c) AddArmed) (view_at w (place_of_client w c))) (draws (view_at w (place_of_client w c)) due).1 (omega arith)
+      (draw_above due (passes (found_by w (place_of_client w c) AddArmed) (hand (view_at w (place_of_client w c))).hi (view_at w (place_of_client w c)).armed) refl fits))
 
   draw_learns : due_at w c ≡ Draw → Learns w c (draw_of w c)
-  draw_learns due = record { sound = draw_sound w s c has.pos has.low due; setup = refl; own = λ _. draw_own; others = λ e _ apart. else_sees AddArmed e apart }
+  draw_learns due = record { sound = draw_sound w s c has.pos has.low due; setup = refl; own = λ _. draw_own due; others = λ e _ apart. else_sees AddArmed e apart }
 
   look_calm : (d : ℕ) → HasDriver w.setup d → due_at w c ≡ Rest → Calm w (look_of w c d).after
   look_calm d driver due = record {
@@ -314,50 +332,75 @@ module _ (w : Whole) (s : IsSound w) (c : ℕ) (has : HasClient w.setup c) where
   client_fair ToPublish due = tt
   client_fair Resign due = tt
 
-tells : (w : Whole) (c : ℕ) → HasClient w.setup c → (r : Stepped) → Learns w c r → Adds r.reply w.batches r.after.batches → IsFair r.reply (seen_at w c) → Tells w c r
-tells w c has r l batches fair = record { sound = l.sound; setup = l.setup; batches = batches; fair = λ seen is. subst (λ (x : Seen). IsFair r.reply x) (is has) fair; own = l.own; others = l.others }
+tells : (w : Whole) (c : ℕ) → HasClient w.setup c → (r : Stepped) → Learns w c r → Shows w 0 r → Adds r.reply w.batches r.after.batches → IsFair r.reply (seen_at w c) → Rises r.reply (seen_at w c) → Tells w 0 c r
+tells w c has r l windows batches fair rises = record {
+  sound = l.sound;
+  setup = l.setup;
+  windows = windows;
+  batches = batches;
+  fair = λ seen is. subst (λ (x : Seen). IsFair r.reply x) (is has) fair;
+  own = l.own;
+  risen = λ has. subst (λ (x : Seen). IsUpTo (seen_at w c) x) (sym (l.own has)) rises.risen;
+  shown = λ has. subst (λ (x : Seen). All (λ (y : Seen). IsUpTo y x) (seen_by r.reply)) (sym (l.own has)) rises.shown;
+  others = l.others;
+}
 
 -- nobody is the client 0
-tells_calm : (w : Whole) (r : Stepped) → Calm w r.after → Adds r.reply w.batches r.after.batches → ((seen : Seen) → IsFair r.reply seen) → Tells w 0 r
-tells_calm w r calm batches fair = record { sound = calm.sound; setup = calm.setup; batches = batches; fair = λ seen _. fair seen; own = λ has. absurd (omega (arith, has.pos)); others = λ e has _. calm.seens e has }
+tells_calm : (w : Whole) (d : ℕ) (r : Stepped) → Calm w r.after → Shows w d r → Adds r.reply w.batches r.after.batches → ((seen : Seen) → IsFair r.reply seen) → Tells w d 0 r
+tells_calm w d r calm windows batches fair = record {
+  sound = calm.sound;
+  setup = calm.setup;
+  windows = windows;
+  batches = batches;
+  fair = λ seen _. fair seen;
+  own = λ has. absurd (omega (arith, has.pos));
+  risen = λ has. absurd (omega (arith, has.pos));
+  shown = λ has. absurd (omega (arith, has.pos));
+  others = λ e has _. calm.seens e has;
+}
 
 module _ (w : Whole) (s : IsSound w) where
-  step_tells : (actor : Actor) (kind : Kind) → HasActor w.setup actor → IsAsked w.setup kind → Tells w (client_of actor) (step_of w actor kind)
-  step_tells (Driver d) kind has asked = tells_calm w (step_of w (Driver d) kind)
+  step_fair : (c : ℕ) (has : HasClient w.setup c) (kind : Kind) → IsFair (step_of w (Client c) kind).reply (seen_at w c)
+  step_fair c has kind = fair_cond (same_due (due_for kind) (due_at w c)) (client_step w c (due_at w c) kind) (out_of_turn w (due_at w c)) (seen_at w c)
+      (λ due. client_fair w s c has kind (sym (is_due (due_for kind) (due_at w c) due))) (λ _. tt)
+
+  step_tells : (actor : Actor) (kind : Kind) → HasActor w.setup actor → IsAsked w.setup kind → Tells w (driver_of actor) (client_of actor) (step_of w actor kind)
+  step_tells (Driver d) kind has asked = tells_calm w d (step_of w (Driver d) kind)
       (calm_cond w (same_due (due_for kind) (turn_at w d).due) (driver_step w d (turn_at w d).due kind) (out_of_turn w (turn_at w d).due)
       (λ due. let kept = driver_keeps w s d has.pos has.low kind (sym (is_due (due_for kind) (turn_at w d).due due)) in record { sound = kept.sound; setup = kept.setup; seens = driver_sees w s d has kind }) (λ _. still w s))
-      ((batches_grow w).step (Driver d) kind)
+      (step_shows w s (Driver d) kind has) ((batches_grow w).step (Driver d) kind)
       (λ seen. fair_cond (same_due (due_for kind) (turn_at w d).due) (driver_step w d (turn_at w d).due kind) (out_of_turn w (turn_at w d).due) seen
       (λ _. quiet_fair (driver_step w d (turn_at w d).due kind).reply seen (driver_quiet w d kind).silent) (λ _. tt))
   step_tells (Client c) kind has asked = tells w c has (step_of w (Client c) kind)
       (learns_cond w c (same_due (due_for kind) (due_at w c)) (client_step w c (due_at w c) kind) (out_of_turn w (due_at w c))
       (λ due. client_learns w s c has kind asked (sym (is_due (due_for kind) (due_at w c) due))) (λ _. out_learns w s c (due_at w c)))
-      ((batches_grow w).step (Client c) kind)
-      (fair_cond (same_due (due_for kind) (due_at w c)) (client_step w c (due_at w c) kind) (out_of_turn w (due_at w c)) (seen_at w c)
-      (λ due. client_fair w s c has kind (sym (is_due (due_for kind) (due_at w c) due))) (λ _. tt))
-  step_tells (Store n) kind has asked = tells_calm w (out_of_turn w Rest) (still w s) refl (λ seen. tt)
+      (step_shows w s (Client c) kind has) ((batches_grow w).step (Client c) kind) (step_fair c has kind) (rises (step_of w (Client c) kind).reply (seen_at w c) (step_fair c has kind) (step_hears w c (seen_at w c) kind))
+  step_tells (Store n) kind has asked = tells_calm w 0 (out_of_turn w Rest) (still w s) refl refl (λ seen. tt)
 
-  lead_tells : (d now : ℕ) → HasDriver w.setup d → Tells w 0 (lead_of w d now)
-  lead_tells d now has = tells_calm w (lead_of w d now)
+  lead_tells : (d now : ℕ) → HasDriver w.setup d → Tells w d 0 (lead_of w d now)
+  lead_tells d now has = tells_calm w d (lead_of w d now)
       (calm_cond w (same_due (turn_at w d).due Rest) (lead_read d (read_of w d now)) (out_of_turn w (turn_at w d).due)
       (λ due. lead_read_calm w (read_of w d now) (driver_calm w s d has (Read now) due) d has) (λ _. still w s))
-      ((batches_grow w).lead d now) (λ seen. quiet_fair (lead_of w d now).reply seen (lead_quiet w d now).silent)
+      (lead_shows w s d has now) ((batches_grow w).lead d now) (λ seen. quiet_fair (lead_of w d now).reply seen (lead_quiet w d now).silent)
 
-  tick_tells : (d now : ℕ) → HasDriver w.setup d → Tells w 0 (tick_of w d now)
-  tick_tells d now has = tells_calm w (tick_of w d now)
+  tick_tells : (d now : ℕ) → HasDriver w.setup d → Tells w d 0 (tick_of w d now)
+  tick_tells d now has = tells_calm w d (tick_of w d now)
       (calm_cond w (same_due (turn_at w d).due Rest) (tick_probed d (probe_of w d now)) (out_of_turn w (turn_at w d).due)
       (λ due. tick_probed_calm w (probe_of w d now) (driver_calm w s d has (Probe now) due) d has) (λ _. still w s))
-      ((batches_grow w).tick d now) (λ seen. quiet_fair (tick_of w d now).reply seen (tick_quiet w d now).silent)
+      (tick_shows w s d has now) ((batches_grow w).tick d now) (λ seen. quiet_fair (tick_of w d now).reply seen (tick_quiet w d now).silent)
 
-  resign_tells : (d : ℕ) → HasDriver w.setup d → Tells w 0 (resigned_of w d)
-  resign_tells d has = tells_calm w (resigned_of w d)
+  resign_tells : (d : ℕ) → HasDriver w.setup d → Tells w d 0 (resigned_of w d)
+  resign_tells d has = tells_calm w d (resigned_of w d)
       (calm_cond w (same_due (turn_at w d).due Rest) (resign_of w d) (out_of_turn w (turn_at w d).due) (λ due. driver_calm w s d has Resign due) (λ _. still w s))
-      ((batches_grow w).resign d)
+      (resign_shows w s d has) ((batches_grow w).resign d)
       (λ seen. fair_cond (same_due (turn_at w d).due Rest) (resign_of w d) (out_of_turn w (turn_at w d).due) seen (λ _. quiet_fair (resign_of w d).reply seen (driver_quiet w d Resign).silent) (λ _. tt))
 
-  take_tells : (c d n : ℕ) → HasClient w.setup c → HasDriver w.setup d → IsCount n → Tells w c (take_of w c d n)
-  take_tells c d n has driver count = tells w c has (take_of w c d n) (take_learns w s c d n has driver count) ((batches_grow w).take c d n)
-      (fair_by (take_of w c d n).reply (seen_at w c) (λ at hi m is. take_again_passed w c d n at hi m is) (λ b is. takes_grant w s c d n has driver count b is))
+  take_fair : (c d n : ℕ) → HasClient w.setup c → HasDriver w.setup d → IsCount n → IsFair (take_of w c d n).reply (seen_at w c)
+  take_fair c d n has driver count = fair_by (take_of w c d n).reply (seen_at w c) (λ at hi m is. take_again_passed w c d n at hi m is) (λ b is. takes_grant w s c d n has driver count b is)
+
+  take_tells : (c d n : ℕ) → HasClient w.setup c → HasDriver w.setup d → IsCount n → Tells w 0 c (take_of w c d n)
+  take_tells c d n has driver count = tells w c has (take_of w c d n) (take_learns w s c d n has driver count) (take_shows w 0 c d n) ((batches_grow w).take c d n) (take_fair c d n has driver count)
+      (rises (take_of w c d n).reply (seen_at w c) (take_fair c d n has driver count) (take_hears w c d n (seen_at w c)))
 
   tell_fair : (from to : ℕ) → IsFair (tell_of w from to).reply (seen_at w from)
   tell_fair from to = fair_cond (same_due (due_at w from) Rest) (record { reply = Told; after = note_left w from to }) (out_of_turn w (due_at w from)) (seen_at w from) (λ _. tt) (λ _. tt)
@@ -376,9 +419,10 @@ module _ (w : Whole) (s : IsSound w) where
     tick = tick_tells;
     resign = resign_tells;
     take = take_tells;
-    tell = λ from to has other. tells w from has (tell_of w from to) (tell_learns w s from has to other) ((batches_grow w).tell from to) (tell_fair from to);
-    hear = λ c has. tells w c has (hear_of w c) (hear_learns w s c has) ((batches_grow w).hear c) (hear_fair c);
+    tell = λ from to has other. tells w from has (tell_of w from to) (tell_learns w s from has to other) (tell_shows w 0 from to) ((batches_grow w).tell from to) (tell_fair from to)
+        (rises (tell_of w from to).reply (seen_at w from) (tell_fair from to) (tell_hears w from (seen_at w from) to));
+    hear = λ c has. tells w c has (hear_of w c) (hear_learns w s c has) (hear_shows w 0 c) ((batches_grow w).hear c) (hear_fair c) (rises (hear_of w c).reply (seen_at w c) (hear_fair c) (hear_hears w s c has));
   }
 
 pub is_new : (k : Setup) → IsSetup k → IsNew (opened k)
-is_new k ok = record { sound = opened_sound k ok; unseen = λ c has. ap (λ (v : View). v.seen) (client_at k ok c has.pos has.low) }
+is_new k ok = record { sound = opened_sound k ok; windows = refl; unseen = λ c has. ap (λ (v : View). v.seen) (client_at k ok c has.pos has.low) }

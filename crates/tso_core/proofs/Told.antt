@@ -47,7 +47,7 @@ module _ (w : Whole) (s : IsSound w) (c : ℕ) (pos : 0 < c) (low : c ≤ w.setu
     pub old_view : (id : ℕ) → id < length w.views → get_or (w.views ++ new_note (view_at w (place_of_client w c)) ∷ []) id spent_view ≡ view_at w id
     old_view id within = get_or-append w.views (new_note (view_at w (place_of_client w c)) ∷ []) spent_view id within
 
-    new_view : (id : ℕ) → id ≡ length w.views → get_or (w.views ++ new_note (view_at w (place_of_client w c)) ∷ []) id spent_view ≡ new_note (view_at w (place_of_client w c))
+    pub new_view : (id : ℕ) → id ≡ length w.views → get_or (w.views ++ new_note (view_at w (place_of_client w c)) ∷ []) id spent_view ≡ new_note (view_at w (place_of_client w c))
     new_view id same = ap (λ (m : ℕ). get_or (w.views ++ new_note (view_at w (place_of_client w c)) ∷ []) m spent_view) same ∙ get_or-append_seam w.views (new_note (view_at w (place_of_client w c))) [] spent_view
 
     longer : length (w.views ++ new_note (view_at w (place_of_client w c)) ∷ []) ≡ length w.views + 1
@@ -141,7 +141,7 @@ module _ (w : Whole) (s : IsSound w) (c : ℕ) (pos : 0 < c) (low : c ≤ w.setu
           quota = omega (arith, self.quota, ap (λ (v : View). v.quota) is_note.copy);
         }
 
-    not_note : (id : ℕ) → 0 < waiting id (set w.posts c rest) → id ≢ note
+    pub not_note : (id : ℕ) → 0 < waiting id (set w.posts c rest) → id ≢ note
     not_note id more same = omega (arith, head_counts id, one_time id note same, s.once id, more)
 
     pub heard_sound : IsSound (note_met w c note rest)

@@ -1,20 +1,22 @@
 -- What is true of every sound state, of every list of calls and of every answer.
-use Rattle.std.specs.Prelude.{◌≡◌, ◌≢◌, ◌⊎◌, ℕ, ◌+◌, ◌*◌, ◌<◌, ◌≤◌, true, List, [], ◌∷◌, map, slice_index}
+use Rattle.std.specs.Prelude.{◌≡◌, ◌≢◌, ℕ, ◌+◌, ◌-◌, ◌*◌, ◌<◌, ◌≤◌, max, true, List, [], ◌∷◌, ◌++◌, map, All, slice_index, nat_eq, nat_lt, if◌then◌else◌}
 use Rattle.pd_types.specs.declared.oracle.Actor.{Actor}
 use Rattle.pd_types.specs.declared.oracle.Actor.TheVariants.{Driver, Client, Store}
 use Rattle.pd_types.specs.declared.oracle.Batch.{Batch}
 use Rattle.pd_types.specs.declared.oracle.Seen.{Seen}
+use Rattle.pd_types.specs.declared.oracle.Window.{Window}
 use Rattle.pd_types.specs.Batch.{first_of}
 use Rattle.tso_model.specs.declared.entries.Claim.{Claim}
 use Rattle.tso_model.specs.declared.view.Setup.{Setup}
-use Rattle.tso_model.specs.Words.{opening_claim, cell_of, cursor_at, passes}
+use Rattle.tso_model.specs.Words.{opening_claim, cell_of, cursor_at, window, passes}
 use Rattle.tso_model.specs.Moves.{greater, nothing_seen}
 use Rattle.tso_model.specs.Ledger.{IsWindowList, IsDrawList, place}
 use Rattle.tso_core.specs.declared.reply.Kind.{Kind}
 use Rattle.tso_core.specs.declared.reply.Kind.TheVariants.{Read, Campaign, Save, Probe, Raise, Publish, Resign, Look, Arm, Draw}
-use Rattle.tso_core.specs.declared.reply.Due.TheVariants.{Draw as DrawDue}
+use Rattle.tso_core.specs.declared.reply.Due.{Due}
+use Rattle.tso_core.specs.declared.reply.Due.TheVariants.{Rest, Draw as DrawDue}
 use Rattle.tso_core.specs.declared.reply.Reply.{Reply}
-use Rattle.tso_core.specs.declared.reply.Reply.TheVariants.{Got, Again, Heard, OutOfTurn}
+use Rattle.tso_core.specs.declared.reply.Reply.TheVariants.{Won, Moved, Got, Again, Heard, OutOfTurn, Claimed, Saved}
 use Rattle.tso_core.specs.Due.{due_for}
 use Rattle.tso_core.specs.Whole.{Whole, place_of_client, view_at}
 use Rattle.tso_core.specs.Steps.{Stepped, due_of, step_of, draw_of, out_of_turn}
@@ -34,9 +36,10 @@ pub record AreLedger (w : Whole) : Type 0 where
 abbrev pub AreBounded : Whole → Type 0
 AreBounded w = (d : ℕ) → HasDriver w.setup d → slice_index w.words (cursor_at d) ≤ ((cell_of (slice_index w.words 0)).saved + 64) * 262144
 
--- the batch is of a later term, or of the seen one and behind the last seen timestamp
-abbrev pub IsAbove : Seen → Batch → Type 0
-IsAbove seen b = (seen.term < b.term) ⊎ ((seen.term ≡ b.term) × (seen.last < first_of b))
+-- The batch is above what was seen: its term isn't lower, and its first timestamp is above the last seen one, whatever the terms are
+pub record IsAbove (seen : Seen) (b : Batch) : Type 0 where
+  pub term : seen.term ≤ b.term
+  pub last : seen.last < first_of b
 
 -- A batch that a client gets is above all that it had seen, notes included, and is kept among the others
 pub record IsGranted (w : Whole) (c : ℕ) (b : Batch) : Type 0 where
@@ -83,10 +86,25 @@ Makes (Store s) kind = ⊥
 abbrev pub IsNext : Whole → Actor → Kind → Type 0
 IsNext w actor kind = (due_for kind ≡ due_of w actor) × Makes actor kind
 
--- A step is out of turn exactly where its kind isn't the actor's next; it names what is next then, and changes nothing
+-- the answer isn't that a call is out of turn, whatever is next
+abbrev pub IsInTurn : Reply → Type 0
+IsInTurn reply = (due : Due) → ¬ (reply ≡ OutOfTurn due)
+
+-- A whole call of an actor that is at this due: out of turn exactly where that isn't rest; it names what is next then, and changes nothing
+pub record ComesAtRest (w : Whole) (due : Due) (r : Stepped) : Type 0 where
+  pub refused : due ≢ Rest → r ≡ out_of_turn w due
+  pub made : due ≡ Rest → IsInTurn r.reply
+
+-- A step is out of turn exactly where its kind isn't the actor's next, and a whole call exactly where the actor isn't at rest; it names what is next then, and changes nothing
 pub record RefusesOutOfTurn (w : Whole) : Type 0 where
   pub refused : (actor : Actor) (kind : Kind) → ¬ IsNext w actor kind → step_of w actor kind ≡ out_of_turn w (due_of w actor)
-  pub made : (actor : Actor) (kind : Kind) → IsNext w actor kind → ¬ ((step_of w actor kind).reply ≡ OutOfTurn (due_of w actor))
+  pub made : (actor : Actor) (kind : Kind) → IsNext w actor kind → IsInTurn (step_of w actor kind).reply
+  pub lead : (d now : ℕ) → ComesAtRest w (due_of w (Driver d)) (lead_of w d now)
+  pub tick : (d now : ℕ) → ComesAtRest w (due_of w (Driver d)) (tick_of w d now)
+  pub resign : (d : ℕ) → ComesAtRest w (due_of w (Driver d)) (resigned_of w d)
+  pub take : (c d n : ℕ) → ComesAtRest w (due_of w (Client c)) (take_of w c d n)
+  pub tell : (from to : ℕ) → ComesAtRest w (due_of w (Client from)) (tell_of w from to)
+  pub hear : (c : ℕ) → ComesAtRest w (due_of w (Client c)) (hear_of w c)
 
 -- what an answer adds to the batches: the granted batch, behind all of its term and of lower terms, or nothing
 abbrev pub Adds : Reply → List Batch → List Batch → Type 0
@@ -149,11 +167,50 @@ seen_at w c = (view_at w (place_of_client w c)).seen
 abbrev pub seen_of : Batch → Seen
 seen_of b = record { term = b.term; last = b.last }
 
--- what the caller of an answer has seen then: its batch, or the greater of what it had seen and a note
+-- what an answer shows its caller: the pair of its batch, or of the note
+abbrev pub seen_by : Reply → List Seen
+seen_by (Got b) = seen_of b ∷ []
+seen_by (Heard note) = note ∷ []
+seen_by _ = []
+
+-- what the caller of an answer has seen then: the greater of what it had seen, and of its batch or of a note
 abbrev pub learned : Reply → Seen → Seen
-learned (Got b) seen = seen_of b
+learned (Got b) seen = greater seen (seen_of b)
 learned (Heard note) seen = greater seen note
 learned _ seen = seen
+
+-- the one pair is at most the other, by term and by number
+pub record IsUpTo (a b : Seen) : Type 0 where
+  pub term : a.term ≤ b.term
+  pub last : a.last ≤ b.last
+
+-- the end of the last window
+abbrev pub last_end : List Window → ℕ
+last_end [] = 0
+last_end (w ∷ []) = w.hi
+last_end (w ∷ x ∷ ws) = last_end (x ∷ ws)
+
+-- a window that ends here now: once it is open its start stays; else it begins 3,000 milliseconds before its end, or where it stood where that is later
+abbrev pub ended_at : ℕ → Window → Window
+ended_at hi w = record w { lo = if nat_lt w.lo w.hi then w.lo else max (hi - 3000) w.lo; hi = hi }
+
+-- the window, made longer where it is this driver's and ends below this end
+abbrev pub longer_by : ℕ → ℕ → Window → Window
+longer_by d hi w = if nat_eq w.driver d then (if nat_lt w.hi hi then ended_at hi w else w) else w
+
+-- the windows, with the last one made longer by an end that this driver answered
+abbrev pub lengthened_by : ℕ → ℕ → List Window → List Window
+lengthened_by d hi [] = []
+lengthened_by d hi (w ∷ []) = longer_by d hi w ∷ []
+lengthened_by d hi (w ∷ x ∷ ws) = w ∷ lengthened_by d hi (x ∷ ws)
+
+-- the windows after an answer of this driver, from the windows before it: what a reader of the printed answers can work out
+abbrev pub windows_told : ℕ → Reply → List Window → List Window
+windows_told d (Won term lo hi) ws = ws ++ window term d lo hi ∷ []
+windows_told d (Claimed term) ws = ws ++ window term d (last_end ws) (last_end ws) ∷ []
+windows_told d (Saved hi) ws = lengthened_by d hi ws
+windows_told d (Moved next hi) ws = lengthened_by d hi ws
+windows_told d _ ws = ws
 
 -- a batch is above all that its caller had seen, and an `again` passed the end of its window or of the logical part
 abbrev pub IsFair : Reply → Seen → Type 0
@@ -161,26 +218,36 @@ IsFair (Got b) seen = IsAbove seen b
 IsFair (Again at hi n) seen = passes at hi n ≡ true
 IsFair _ seen = Unit {0}
 
--- What the answer to a call says, and what the call leaves: a sound state; the batches with the granted one; what its client has seen, and all others as before. A driver's call has the client 0, of whom anything may be taken for seen
-pub record Tells (w : Whole) (c : ℕ) (r : Stepped) : Type 0 where
+-- the driver of a step, 0 where a client makes it
+abbrev pub driver_of : Actor → ℕ
+driver_of (Driver d) = d
+driver_of (Client c) = 0
+driver_of (Store s) = 0
+
+-- What the answer to a call of the driver d or of the client c says, where the other is 0, and what the call leaves: a sound state; the windows that the answer tells and the batches with the granted one; what its client has seen, which has risen to what the answer shows, and all others as before. Of the client 0 anything may be taken for seen
+pub record Tells (w : Whole) (d c : ℕ) (r : Stepped) : Type 0 where
   pub sound : IsSound r.after
   pub setup : r.after.setup ≡ w.setup
+  pub windows : r.after.windows ≡ windows_told d r.reply w.windows
   pub batches : Adds r.reply w.batches r.after.batches
   pub fair : (seen : Seen) → (HasClient w.setup c → seen_at w c ≡ seen) → IsFair r.reply seen
   pub own : HasClient w.setup c → seen_at r.after c ≡ learned r.reply (seen_at w c)
+  pub risen : HasClient w.setup c → IsUpTo (seen_at w c) (seen_at r.after c)
+  pub shown : HasClient w.setup c → All (λ (seen : Seen). IsUpTo seen (seen_at r.after c)) (seen_by r.reply)
   pub others : (e : ℕ) → HasClient w.setup e → e ≢ c → seen_at r.after e ≡ seen_at w e
 
 -- so it is with each call
 pub record EachCallTells (w : Whole) : Type 0 where
-  pub step : (actor : Actor) (kind : Kind) → HasActor w.setup actor → IsAsked w.setup kind → Tells w (client_of actor) (step_of w actor kind)
-  pub lead : (d now : ℕ) → HasDriver w.setup d → Tells w 0 (lead_of w d now)
-  pub tick : (d now : ℕ) → HasDriver w.setup d → Tells w 0 (tick_of w d now)
-  pub resign : (d : ℕ) → HasDriver w.setup d → Tells w 0 (resigned_of w d)
-  pub take : (c d n : ℕ) → HasClient w.setup c → HasDriver w.setup d → IsCount n → Tells w c (take_of w c d n)
-  pub tell : (from to : ℕ) → HasClient w.setup from → HasClient w.setup to → Tells w from (tell_of w from to)
-  pub hear : (c : ℕ) → HasClient w.setup c → Tells w c (hear_of w c)
+  pub step : (actor : Actor) (kind : Kind) → HasActor w.setup actor → IsAsked w.setup kind → Tells w (driver_of actor) (client_of actor) (step_of w actor kind)
+  pub lead : (d now : ℕ) → HasDriver w.setup d → Tells w d 0 (lead_of w d now)
+  pub tick : (d now : ℕ) → HasDriver w.setup d → Tells w d 0 (tick_of w d now)
+  pub resign : (d : ℕ) → HasDriver w.setup d → Tells w d 0 (resigned_of w d)
+  pub take : (c d n : ℕ) → HasClient w.setup c → HasDriver w.setup d → IsCount n → Tells w 0 c (take_of w c d n)
+  pub tell : (from to : ℕ) → HasClient w.setup from → HasClient w.setup to → Tells w 0 from (tell_of w from to)
+  pub hear : (c : ℕ) → HasClient w.setup c → Tells w 0 c (hear_of w c)
 
--- a new oracle is sound, and no client has seen anything
+-- a new oracle is sound, has the window of its opening cell alone, which is of driver 0 and has no length, and no client has seen anything
 pub record IsNew (w : Whole) : Type 0 where
   pub sound : IsSound w
+  pub windows : w.windows ≡ window w.setup.cell.term 0 w.setup.cell.saved w.setup.cell.saved ∷ []
   pub unseen : (c : ℕ) → HasClient w.setup c → seen_at w c ≡ nothing_seen

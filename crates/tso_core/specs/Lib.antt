@@ -13,3 +13,4 @@ pub mod State
 pub mod Steps
 pub mod Text
 pub mod Whole
+pub mod WholeCalls

@@ -12,6 +12,7 @@ use Rattle.tso_core.specs.declared.turn.Turn.{Turn}
 use Rattle.tso_core.specs.declared.reply.Due.{Due}
 use Rattle.tso_core.specs.declared.reply.Due.TheVariants.{Rest, Campaign, Save, Raise, Publish, Arm, Draw}
 use Rattle.tso_model.specs.Plan.{end_of}
+use Rattle.tso_core.specs.Due.{at_rest}
 use Rattle.tso_core.specs.Whole.{Whole, place_of_client, view_at, turn_at}
 
 -- the view of the driver d
@@ -52,15 +53,15 @@ pub record MayRaise (next : ℕ) (v : View) : Type 0 where
   pub below : next ≤ (held v).hi
   pub start : (v.marked ≡ true) ⊎ (IsOpen (held v) × ((held v).lo ≤ next))
 
--- what a driver's due says of its view
+-- what a driver's due says of its turn and its view: at rest it goes nowhere and owes no publish, a publish goes nowhere either, and an arm or a draw is never due
 abbrev pub StandsAt : Due → Turn → View → Type 0
-StandsAt Rest turn v = IsSettled v
+StandsAt Rest turn v = (turn ≡ at_rest) × IsSettled v
 StandsAt Campaign turn v = MayCampaign turn.next v
 StandsAt Save turn v = MaySave turn.next v
 StandsAt Raise turn v = MayRaise turn.next v
-StandsAt Publish turn v = turn.publishes ≡ true → v.marked ≡ true
-StandsAt Arm turn v = Unit {0}
-StandsAt Draw turn v = Unit {0}
+StandsAt Publish turn v = (turn.next ≡ 0) × (turn.publishes ≡ true → v.marked ≡ true)
+StandsAt Arm turn v = ⊥
+StandsAt Draw turn v = ⊥
 
 -- the driver d with its turn
 pub record DriverFits (d : ℕ) (turn : Turn) (v : View) : Type 0 where

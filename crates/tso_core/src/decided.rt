@@ -4,9 +4,10 @@ ghost use Rattle.tso_model.specs.Words.{cell_of};
 ghost use Rattle.tso_core.specs.Steps.{read_decides, campaign_decides, save_decides, raise_decides, probe_decides, moves_to, looked_reply, arm_reply};
 ghost use Rattle.tso_model.specs.Plan.{end_of};
 
-use crate::plan::{AHEAD_MS, is_passing, is_past_clock, is_saving, next_of_lead, next_of_tick};
+use crate::plan::{is_passing, is_past_clock, is_saving, next_of_lead, next_of_tick};
 use crate::{Due, Reply, Turn};
 use pd_types::{CellWord, LOGICAL, Seen, Window};
+use tso_model::AHEAD_MS;
 
 // The greatest term.
 const LAST_TERM: u64 = 262_143;

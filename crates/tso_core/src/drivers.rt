@@ -11,10 +11,9 @@ use crate::decided::{
 };
 use crate::lists::Lists;
 use crate::machine::Machine;
-use crate::plan::AHEAD_MS;
 use crate::{Reply, Turn};
 use pd_types::LOGICAL;
-use tso_model::WordStep;
+use tso_model::{AHEAD_MS, WordStep};
 
 impl Machine {
     /// A driver at rest reads the cell at a moment.

@@ -5,6 +5,7 @@ ghost use Rattle.tso_model.specs.Sound.{IsSetup};
 ghost use Rattle.tso_core.specs.Whole.{Whole};
 ghost use Rattle.tso_core.specs.Sound.{IsSound};
 ghost use Rattle.tso_core.specs.Opened.{opened};
+ghost use Rattle.tso_core.specs.WholeCalls.{EachWholeCallTells, StepsName};
 ghost use Rattle.tso_core.specs.Laws.{AreLedger, AreBounded, DrawsGrant, AgainPassed, TakeAgainPassed, RefusesOutOfTurn, BatchesGrow, TakesGrant, EachCallTells, IsNew, Call, AreCalls, played};
 
 /// The state is sound after every list of steps and notes of any actors.
@@ -36,4 +37,12 @@ pub fn every_answer_tells()
 pub fn every_call_tells()
     ensures fresh { (k : Setup) → IsSetup k → IsNew (opened k) }
     ensures calls { (w : Whole) → IsSound w → EachCallTells w }
+{}
+
+/// What a whole call of an actor at rest answers, exactly when, and what it leaves: which windows,
+/// words, batches and notes come, and that all else is as before. A single step answers with the
+/// word that it touched.
+pub fn every_whole_call_tells()
+    ensures calls { (w : Whole) → IsSound w → EachWholeCallTells w }
+    ensures steps { (w : Whole) → IsSound w → StepsName w }
 {}

@@ -23,6 +23,7 @@ mod turn;
 
 pub use laws::{
     every_answer_tells, every_call_tells, every_list_of_calls_keeps, every_sound_state_tells,
+    every_whole_call_tells,
 };
 pub use oracle::Core;
 pub use reply::{Due, Kind, Reply};

@@ -5,9 +5,7 @@ ghost use Rattle.tso_model.specs.Steps.{saved_window};
 ghost use Rattle.tso_model.specs.Plan.{lead_next, tick_next, past_clock, saves_for};
 
 use pd_types::{LOGICAL, Window};
-
-/// How far ahead a window's end is saved, in milliseconds.
-pub const AHEAD_MS: u64 = 3000;
+use tso_model::AHEAD_MS;
 
 // Saved ends are below this, in milliseconds.
 const CLOCK_END: u64 = 1 << 45;

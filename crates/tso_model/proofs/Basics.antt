@@ -79,6 +79,26 @@ one_each first c (x ∷ xs) chain e f he hf same = ⊎_elim
     (in_cons c (x ∷ xs) f hf))
     (in_cons c (x ∷ xs) e he)
 
+-- a window of a lower term ends before one of a higher term begins
+pub in_order : (first c : Claim) (past : List Claim) → AreClaims first c past → (e f : Claim) → Contains (c ∷ past) e → Contains (c ∷ past) f → e.window.term < f.window.term → e.window.hi ≤ f.window.lo
+in_order first c [] chain e f he hf lt = ⊎_elim
+    (λ (s : c ≡ e). ⊎_elim
+    (λ (t : c ≡ f). absurd (omega (arith, lt, ap (λ (y : Claim). y.window.term) s, ap (λ (y : Claim). y.window.term) t)))
+    (λ (z : Contains [] f). in_nil f z)
+    (in_cons c [] f hf))
+    (λ (z : Contains [] e). in_nil e z)
+    (in_cons c [] e he)
+in_order first c (x ∷ xs) chain e f he hf lt = ⊎_elim
+    (λ (t : c ≡ f). ⊎_elim
+    (λ (s : c ≡ e). absurd (omega (arith, lt, ap (λ (y : Claim). y.window.term) s, ap (λ (y : Claim). y.window.term) t)))
+    (λ (z : Contains (x ∷ xs) e). omega (arith, (chain_le first x xs chain.1 e z).2, chain.0.begins, ap (λ (y : Claim). y.window.lo) t))
+    (in_cons c (x ∷ xs) e he))
+    (λ (z : Contains (x ∷ xs) f). ⊎_elim
+    (λ (s : c ≡ e). absurd (omega (arith, lt, ap (λ (y : Claim). y.window.term) s, past_lower first c (x ∷ xs) chain f z)))
+    (λ (y : Contains (x ∷ xs) e). in_order first x xs chain.1 e f y z lt)
+    (in_cons c (x ∷ xs) e he))
+    (in_cons c (x ∷ xs) f hf)
+
 -- a window of a driver is not the opening window, and so of a later term
 pub later_term : (first c : Claim) (past : List Claim) → AreClaims first c past → first.window.driver ≡ 0 → (e : Claim) → Contains (c ∷ past) e → 0 < e.window.driver → first.window.term < e.window.term
 later_term first c [] chain shut e h pos = ⊎_elim (λ (s : c ≡ e). absurd (omega (arith, shut, pos, ap (λ (y : Claim). y.window.driver) chain, ap (λ (y : Claim). y.window.driver) s))) (λ (z : Contains [] e). in_nil e z) (in_cons c [] e h)

@@ -17,6 +17,7 @@ use Rattle.pd_types.specs.declared.oracle.CellWord.{CellWord}
 use Rattle.tso_model.specs.Words.{packed, cell_of, cell_word, AreClaims, opening_claim, limit_at}
 use Rattle.tso_model.specs.declared.step.WordStep.TheVariants.{ClaimTerm}
 use Rattle.tso_model.specs.Steps.{May, held, held_or, knows, new_claim, claimed, saved_claim, saves}
+use Rattle.tso_model.specs.declared.plan.TheConstants.{AHEAD_MS}
 use Rattle.tso_model.specs.Sound.{FitsA, PartA}
 use Rattle.tso_model.proofs.Basics.{by_eq, at_some, if_some, in_head, in_tail, in_cons, chain_le, one_each, later_term}
 use Rattle.tso_model.proofs.Growth.{names_later, same_windows, longer, another, own_number, latest_stands, step_a, live_driver}
@@ -195,7 +196,7 @@ pub saved_extends : (hi : ℕ) (c : Claim) → c.window.hi < hi → Extends c (s
 saved_extends hi c above = record {
   term = refl;
   driver = refl;
-  lo = λ is_open. by_eq (λ t. cond t (max (hi - 3000) c.window.hi) c.window.lo ≡ c.window.lo) c.window.lo c.window.hi (λ e. absurd (omega (arith, e, is_open))) (λ _. refl);
+  lo = λ is_open. by_eq (λ t. cond t (max (hi - AHEAD_MS) c.window.hi) c.window.lo ≡ c.window.lo) c.window.lo c.window.hi (λ e. absurd (omega (arith, e, is_open))) (λ _. refl);
   hi = omega (arith, above);
 }
 
@@ -203,11 +204,11 @@ save_chain : (first c : Claim) (past : List Claim) (hi : ℕ) → AreClaims firs
 save_chain first c [] hi chain pos none above = absurd (omega (arith, pos, none, ap (λ (y : Claim). y.window.driver) chain))
 save_chain first c (x ∷ xs) hi chain pos none above =
     let f = chain.0 in
-    let open_now : cond (eqb c.window.lo c.window.hi) (max (hi - 3000) c.window.hi) c.window.lo < hi = by_eq (λ t. cond t (max (hi - 3000) c.window.hi) c.window.lo < hi) c.window.lo c.window.hi (λ _. omega (arith, above)) (λ _. omega (arith, f.ends, above)) in (
+    let open_now : cond (eqb c.window.lo c.window.hi) (max (hi - AHEAD_MS) c.window.hi) c.window.lo < hi = by_eq (λ t. cond t (max (hi - AHEAD_MS) c.window.hi) c.window.lo < hi) c.window.lo c.window.hi (λ _. omega (arith, above)) (λ _. omega (arith, f.ends, above)) in (
       record {
         term = f.term;
         at = f.at;
-        begins = by_eq (λ t. x.window.hi ≤ cond t (max (hi - 3000) c.window.hi) c.window.lo) c.window.lo c.window.hi (λ _. omega (arith, f.begins, f.ends)) (λ _. f.begins);
+        begins = by_eq (λ t. x.window.hi ≤ cond t (max (hi - AHEAD_MS) c.window.hi) c.window.lo) c.window.lo c.window.hi (λ _. omega (arith, f.begins, f.ends)) (λ _. f.begins);
         ends = omega (arith, open_now);
         closed = λ e. absurd (omega (arith, e, open_now));
         driver = f.driver;
@@ -279,7 +280,7 @@ kept_a k words views h id hi v c s at pos holds is above small hit =
         own_start = mine.own_start;
         own_sum = mine.own_sum;
         holds = λ _. (saved_claim hi c, refl);
-        marked = by_eq (λ t. cond t false v.marked ≡ true → (v.holds ≡ true) × (cond t (max (hi - 3000) c.window.hi) c.window.lo < hi) × (cond t (max (hi - 3000) c.window.hi) c.window.lo * 262144 ≤ greatest v.driver h.starts)) c.window.lo c.window.hi
+        marked = by_eq (λ t. cond t false v.marked ≡ true → (v.holds ≡ true) × (cond t (max (hi - AHEAD_MS) c.window.hi) c.window.lo < hi) × (cond t (max (hi - AHEAD_MS) c.window.hi) c.window.lo * 262144 ≤ greatest v.driver h.starts)) c.window.lo c.window.hi
             (λ _ e. absurd (cc e))
             (λ _ e. let old = mine.marked e in
             (old.0, omega (arith, above, old.1, ap (λ (y : Window). y.lo) held_is, ap (λ (y : Window). y.hi) held_is), omega (arith, old.2, ap (λ (y : Window). y.lo) held_is)));

@@ -1,5 +1,5 @@
 -- What a step tells of the number found, beside the equation of the view.
-use Rattle.std.proofs.Common.{◌≡◌, ◌≢◌, ℕ, ◌+◌, ◌/◌, ◌%◌, ◌^◌, ◌<◌, ◌≤◌, false, List, [], ◌++◌, sym, refl, ap, ◌∙◌, inl, inr, ⊎_elim, arith}
+use Rattle.std.proofs.Common.{◌≡◌, ◌≢◌, ℕ, ◌+◌, ◌*◌, ◌/◌, ◌%◌, ◌^◌, ◌<◌, ◌≤◌, false, List, [], ◌++◌, sym, refl, ap, ◌∙◌, ⊎_elim, arith}
 use Rattle.std.specs.Prelude.{Option, None, Some, IfSome, option_to_list, All, slice_index}
 use mathlib.Core.Logic.{dite}
 use mathlib.Core.Option.{some}
@@ -16,7 +16,7 @@ use Rattle.tso_model.specs.Words.{packed, cell_word, opening_claim, cursor_at}
 use Rattle.tso_model.specs.Steps.{hand, HasHand}
 use Rattle.tso_model.specs.Moves.{nothing_seen}
 use Rattle.tso_model.specs.Sound.{PartA, IsSeen, PartB, armed_at}
-use Rattle.tso_model.proofs.Basics.{at_some, if_some, in_head, chain_le, one_each, later_term}
+use Rattle.tso_model.proofs.Basics.{at_some, if_some, in_head, chain_le, one_each, in_order, later_term}
 use Rattle.tso_model.proofs.Growth.{latest_stands, live_driver, live_client}
 use Rattle.tso_model.proofs.CellA.{opening_stands}
 use Rattle.tso_model.proofs.DrawB.{in_hand, armed_here, hand_driver}
@@ -94,22 +94,32 @@ lost k words views h id v c s at pos is miss =
     pick : (x : Claim) → Some x ≡ Some c → x ≡ c
     pick x e = ap or_c e
 
--- a client at a cursor: the cursor that is found is at the seen pair or above, and a draw fits its word
+-- a client at a cursor: the cursor that is found is at the seen timestamp or above, whatever the limit's term, and a draw fits its word
 pub unseen : (k : Setup) (words : List ℕ) (views : List View) (h : History) (id : ℕ) (v : View) → PartA k words views h → PartB k words views h → get_elem? views id ≡ some v → 0 < v.client → HasHand v
     → IsUnseen v.seen (hand v).term (slice_index words (cursor_at (hand v).driver)) × (slice_index words (cursor_at (hand v).driver) + v.armed < 2 ^ 64)
 unseen k words views h id v a s at pos has =
     let mine = s.each id v at (live_client k words views h id v a at pos) in
     let own = in_hand words h v mine has in
     let name = own.0 in
-    let d = hand_driver k words views h (hand v).driver (hand v).term (hand v).hi a name in (
-      dite (ℕ_discrete v.seen.term (hand v).term)
-          (λ e. inr (
-            e,
-            ⊎_elim
-                (λ (z : v.seen ≡ nothing_seen). omega (arith, ap (λ (y : Seen). y.last) z))
-                (λ (y : IsSeen words h v.seen). omega (arith, y.drawn, ap (λ (m : ℕ). slice_index words (cursor_at m)) (ap (λ (u : Claim). u.window.driver) (one_each (opening_claim k.cell) h.newest h.past a.chain y.claim name.claim y.stands name.stands (y.term_is ∙ e ∙ sym name.term_is)) ∙ name.driver_is)))
-                mine.seen,
-          ))
-          (λ ne. inl (omega (arith, ne, own.2))),
+    let d = hand_driver k words views h (hand v).driver (hand v).term (hand v).hi a name in
+    let low = s.raised (hand v).driver d.0 d.1 in (
+      (
+        own.2,
+        ⊎_elim
+            (λ (z : v.seen ≡ nothing_seen). omega (arith, ap (λ (y : Seen). y.last) z))
+            (λ (y : IsSeen words h v.seen). dite (ℕ_discrete v.seen.term (hand v).term)
+            (λ e. omega (arith, y.drawn, ap (λ (m : ℕ). slice_index words (cursor_at m)) (ap (λ (u : Claim). u.window.driver) (one_each (opening_claim k.cell) h.newest h.past a.chain y.claim name.claim y.stands name.stands (y.term_is ∙ e ∙ sym name.term_is)) ∙ name.driver_is)))
+            (λ ne. omega (arith, low, name.raised, y.below, in_order (opening_claim k.cell) h.newest h.past a.chain y.claim name.claim y.stands name.stands (omega (arith, y.term_is, name.term_is, ne, own.2)))))
+            mine.seen,
+      ),
       omega (arith, s.cursors (hand v).driver d.0 d.1, term_le (armed_at (hand v).driver) views id v at, armed_here v, a.in_time),
     )
+
+-- a draw leaves the cursor at most 64 ms past the end that is saved at that moment
+pub in_bound : (k : Setup) (words : List ℕ) (views : List View) (h : History) (id : ℕ) (v : View) → PartA k words views h → PartB k words views h → get_elem? views id ≡ some v → 0 < v.client → HasHand v
+    → slice_index words (cursor_at (hand v).driver) + v.armed ≤ (slice_index words 0 / 262144 + 64) * 262144
+in_bound k words views h id v a s at pos has =
+    let mine = s.each id v at (live_client k words views h id v a at pos) in
+    let name = (in_hand words h v mine has).0 in
+    let d = hand_driver k words views h (hand v).driver (hand v).term (hand v).hi a name in
+    omega (arith, s.cursors (hand v).driver d.0 d.1, term_le (armed_at (hand v).driver) views id v at, armed_here v, (found_cell k words views h a).0)

@@ -33,7 +33,7 @@ map-push : (xs : List Claim) (c : Claim) → map (λ (x : Claim). x.window) (xs 
 map-push [] c = refl
 map-push (x ∷ xs) c = ap (λ (l : List Window). x.window ∷ l) (map-push xs c)
 
-longer_push : (hi : ℕ) (xs : List Window) (w : Window) → longer_last hi (xs ++ w ∷ []) ≡ xs ++ saved_window hi w ∷ []
+pub longer_push : (hi : ℕ) (xs : List Window) (w : Window) → longer_last hi (xs ++ w ∷ []) ≡ xs ++ saved_window hi w ∷ []
 longer_push hi [] w = refl
 longer_push hi (x ∷ []) w = refl
 longer_push hi (x ∷ y ∷ ys) w = ap (λ (l : List Window). x ∷ l) (longer_push hi (y ∷ ys) w)

@@ -1,5 +1,5 @@
 -- The statements of the law functions, each with a name of its own.
-use Rattle.std.specs.Prelude.{◌≡◌, ◌≢◌, ℕ, ◌+◌, ◌/◌, ◌%◌, ◌^◌, ◌<◌, ◌≤◌, false, List, [], ◌∷◌, ◌++◌, Some, slice_index, slice_set}
+use Rattle.std.specs.Prelude.{◌≡◌, ◌≢◌, ◌⊎◌, ℕ, ◌+◌, ◌*◌, ◌/◌, ◌%◌, ◌^◌, ◌<◌, ◌≤◌, true, false, List, [], ◌∷◌, ◌++◌, None, Some, slice_index, slice_set}
 use mathlib.Core.Option.{some}
 use lib.ListN.{get_elem?}
 use Rattle.pd_types.specs.declared.oracle.Batch.{Batch}
@@ -11,7 +11,8 @@ use Rattle.tso_model.specs.declared.view.Setup.{Setup}
 use Rattle.tso_model.specs.Lists.{total}
 use Rattle.tso_model.specs.Words.{packed, cell_word, opening_claim, cursor_at}
 use Rattle.tso_model.specs.History.{History, claims}
-use Rattle.tso_model.specs.Steps.{AtRest, HasHand, hand}
+use Rattle.tso_model.specs.Steps.{AtRest, HasClaim, HasHand, held, hand}
+use Rattle.tso_model.specs.Plan.{lead_next, tick_next}
 use Rattle.tso_model.specs.Moves.{gave_driver, new_driver, gave_client, new_client, new_note, joined, spent_view}
 use Rattle.tso_model.specs.Sound.{PartA, PartB, Sound, KeepsEach, IsAbove, IsUnseen}
 use Rattle.tso_model.specs.Ledger.{Recorded, IsWindowList, IsDrawList, back, drawn_by, HasAll, Gathered, GathersEach, IsRisingBy}
@@ -91,10 +92,15 @@ abbrev pub LostToAnother : Setup → Type 0
 LostToAnother k = (words : List ℕ) (views : List View) (h : History) (id : ℕ) (v : View) (c : Claim) → PartA k words views h → get_elem? views id ≡ some v → 0 < v.driver → v.latest ≡ Some c
     → slice_index words 0 ≢ packed c.window.hi c.window.term → IsAbove k v (slice_index words 0 % 262144)
 
--- a batch behind the cursor of the limit in hand is above all that the client had seen, and the cursor's word doesn't wrap
+-- a batch behind the cursor of the limit in hand is above all that the client had seen, by term and by number, and the cursor's word doesn't wrap
 abbrev pub DrawsUnseen : Setup → Type 0
 DrawsUnseen k = (words : List ℕ) (views : List View) (h : History) (id : ℕ) (v : View) → PartA k words views h → PartB k words views h → get_elem? views id ≡ some v → 0 < v.client → HasHand v
     → IsUnseen v.seen (hand v).term (slice_index words (cursor_at (hand v).driver)) × (slice_index words (cursor_at (hand v).driver) + v.armed < 2 ^ 64)
+
+-- a draw leaves the cursor at most 64 milliseconds past the end that is saved at that moment
+abbrev pub DrawsInBound : Setup → Type 0
+DrawsInBound k = (words : List ℕ) (views : List View) (h : History) (id : ℕ) (v : View) → PartA k words views h → PartB k words views h → get_elem? views id ≡ some v → 0 < v.client → HasHand v
+    → slice_index words (cursor_at (hand v).driver) + v.armed ≤ (slice_index words 0 / 262144 + 64) * 262144
 
 -- the batches of a sound state form the draw list of its windows
 abbrev pub DrawnInWindows : Setup → Type 0
@@ -112,3 +118,33 @@ RisingAreEqual {A} key = (xs ys : List A) → IsRisingBy key xs → IsRisingBy k
 abbrev pub SortedAreWhole : Setup → Type 0
 SortedAreWhole k = (v : View) (ws : List Claim) (bs : List Batch) → Gathered k v → IsRisingBy (λ (c : Claim). c.window.term) ws → ((f : Claim → ℕ) → total f ws ≡ total f (claims v) + f (opening_claim k.cell))
     → IsRisingBy (λ (b : Batch). b.last) bs → ((f : Batch → ℕ) → total f bs ≡ total (λ (g : Grant). f g.batch) v.grants) → IsWindowList (opening_claim k.cell) ws × IsDrawList ws bs
+
+-- Where a lead begins: at the moment, or one millisecond past the saved time where that is later
+pub record LeadBegins (saved now : ℕ) : Type 0 where
+  pub reached : now ≤ lead_next saved now
+  pub above : saved < lead_next saved now
+  pub first : (lead_next saved now ≡ now) ⊎ (lead_next saved now ≡ saved + 1)
+
+-- Where a tick goes: to the moment where that is more than a millisecond ahead of the cursor; else one millisecond on where over half of the logical part is used, or the physical part is at the end or past it; else nowhere
+pub record TickGoes (cursor hi now : ℕ) : Type 0 where
+  pub moment : cursor / 262144 + 1 < now → tick_next cursor hi now ≡ Some now
+  pub used : now ≤ cursor / 262144 + 1 → 131072 < cursor % 262144 → tick_next cursor hi now ≡ Some (cursor / 262144 + 1)
+  pub ended : now ≤ cursor / 262144 + 1 → hi ≤ cursor / 262144 → tick_next cursor hi now ≡ Some (cursor / 262144 + 1)
+  pub idle : now ≤ cursor / 262144 + 1 → cursor % 262144 ≤ 131072 → cursor / 262144 < hi → tick_next cursor hi now ≡ None
+
+-- a save asks for a held term, and for an end above the held one and below 2^45 milliseconds
+abbrev pub MaySaveBelow : ℕ → View → Type 0
+MaySaveBelow hi v = (0 < v.driver) × (v.holds ≡ true) × HasClaim v × ((held v).hi < hi) × (hi < 35184372088832)
+
+-- an arm asks for a limit in hand, nothing armed, and 1 to 262,143 timestamps, within the quota
+abbrev pub MayArmUpTo : ℕ → View → Type 0
+MayArmUpTo n v = (0 < v.client) × HasHand v × (v.armed ≡ 0) × (0 < n) × (n ≤ 262143) × (n ≤ v.quota)
+
+-- 1 to 7 drivers, 1 to 64 clients, a saved time below 2^45 milliseconds, a term up to 262,143
+abbrev pub IsSetupOf : Setup → Type 0
+IsSetupOf k = ((0 < k.drivers) × (k.drivers ≤ 7)) × ((0 < k.clients) × (k.clients ≤ 64)) × (k.cell.saved < 35184372088832) × (k.cell.term ≤ 262143)
+
+-- a cursor stands at most 64 milliseconds past the saved end, whatever was drawn and refused
+abbrev pub CursorsInBound : Setup → Type 0
+CursorsInBound k = (words : List ℕ) (views : List View) (h : History) → PartA k words views h → PartB k words views h → (d : ℕ) → 0 < d → d ≤ k.drivers
+    → slice_index words (cursor_at d) ≤ (slice_index words 0 / 262144 + 64) * 262144

@@ -1,10 +1,11 @@
 -- What a moment asks for (PD documentation, "Timestamp Oracle": the physical part follows the clock, goes on where over half of the logical part is used, and a window is saved ahead; the exact conditions are own choice).
 use Rattle.std.specs.Prelude.{ℕ, ◌+◌, ◌-◌, ◌^◌, max, Bool, Option, None, Some, nat_le, nat_lt, if◌then◌else◌}
 use Rattle.pd_types.specs.Timestamp.{physical, logical}
+use Rattle.tso_model.specs.declared.plan.TheConstants.{AHEAD_MS}
 
--- the end that is saved with a physical time: 3000 milliseconds behind it
+-- the end that is saved with a physical time: 3,000 milliseconds behind it
 abbrev pub end_of : ℕ → ℕ
-end_of next = next + 3000
+end_of next = next + AHEAD_MS
 
 -- that end would be past the clock's 45 bits
 abbrev pub past_clock : ℕ → Bool

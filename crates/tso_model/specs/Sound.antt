@@ -198,6 +198,6 @@ Keeps k id kind v = (words : List ℕ) (views : List View) → Sound k words vie
 abbrev pub IsAbove : Setup → View → ℕ → Type 0
 IsAbove k v term = (k.cell.term < term) × All (λ (c : Claim). c.window.driver ≡ v.driver → c.window.term < term) (claims v)
 
--- a batch of this term from `at` on is above all that was seen
+-- a batch of this term behind the cursor `at` is above all that was seen, by its term and by its timestamps
 abbrev pub IsUnseen : Seen → ℕ → ℕ → Type 0
-IsUnseen seen term at = (seen.term < term) ⊎ ((seen.term ≡ term) × (seen.last ≤ at))
+IsUnseen seen term at = (seen.term ≤ term) × (seen.last ≤ at)

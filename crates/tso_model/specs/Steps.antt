@@ -5,6 +5,7 @@ use Rattle.pd_types.specs.declared.oracle.Window.{Window}
 use Rattle.pd_types.specs.declared.oracle.Batch.{Batch}
 use Rattle.tso_model.specs.declared.entries.Claim.{Claim}
 use Rattle.tso_model.specs.declared.entries.Limit.{Limit}
+use Rattle.tso_model.specs.declared.plan.TheConstants.{AHEAD_MS}
 use Rattle.tso_model.specs.declared.view.View.{View}
 use Rattle.tso_model.specs.declared.view.Setup.{Setup}
 use Rattle.tso_model.specs.declared.step.WordStep.{WordStep}
@@ -92,9 +93,9 @@ new_claim v = claim (window (v.cell.term + 1) v.driver v.cell.saved v.cell.saved
 abbrev pub claimed : View → View
 claimed v = record v { cell = record { saved = v.cell.saved; term = v.cell.term + 1 }; holds = true; marked = false; older = v.older ++ Rattle.std.specs.Prelude.option_to_list v.latest; latest = Some (new_claim v) }
 
--- the first save of a term sets lo too
+-- the first save of a term sets lo too: where its end was reckoned from, or the saved time of the claim where that is later
 abbrev pub saved_window : ℕ → Window → Window
-saved_window hi w = record w { lo = cond (w.lo == w.hi) (max (hi - 3000) w.hi) w.lo; hi = hi }
+saved_window hi w = record w { lo = cond (w.lo == w.hi) (max (hi - AHEAD_MS) w.hi) w.lo; hi = hi }
 
 -- the claim with its window made longer
 abbrev pub saved_claim : ℕ → Claim → Claim

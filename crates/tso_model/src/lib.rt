@@ -3,10 +3,14 @@
 
 mod entries;
 mod laws;
+mod plan;
 mod step;
 mod view;
 
 pub use entries::{Added, Claim, Found, Grant, Limit, Look, Published, Refusal, Start};
-pub use laws::{each_move_keeps, each_step_keeps, each_step_learns, the_lists};
+pub use laws::{
+    each_move_keeps, each_step_keeps, each_step_learns, the_lists, the_numbers, the_plan,
+};
+pub use plan::AHEAD_MS;
 pub use step::WordStep;
 pub use view::{Setup, View};
