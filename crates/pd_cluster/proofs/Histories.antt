@@ -1,9 +1,9 @@
 -- The answers to any lawful script are a safe history.
 use Rattle.std.proofs.Common.{cond, ltb, nat_eq, ◌⊎◌, inl, inr, ⊎_elim, ◌<◌, ◌≤◌, ◌≡◌, ℕ, zero, suc, ◌^◌, List, [], ◌∷◌, ◌++◌, Bool, true, false, length, map, refl, sym, ap, ◌∙◌, subst, arith, append_assoc}
-use Rattle.std.specs.Prelude.{All, AllPairs, Contains, Option, slice_index_or}
+use Rattle.std.specs.Prelude.{All, AllPairs, Contains, Option, Some, slice_index_or}
 use Rattle.std.specs.List.{AllByRecursion}
 use Rattle.std.proofs.lemmas.Bool.Decides.{nat_tests}
-use Rattle.std.proofs.lemmas.List.Elements.{All-from_recursion, recursion_from_All}
+use Rattle.std.proofs.lemmas.List.Elements.{All-from_recursion, All-nil, recursion_from_All}
 use Rattle.std.proofs.lemmas.List.Kept.{AllPairs-cons}
 use Rattle.pd_types.specs.Batch.{first_of}
 use Rattle.pd_types.specs.declared.oracle.Batch.{Batch}
@@ -12,10 +12,9 @@ use Rattle.pd_types.specs.declared.oracle.Window.{Window}
 use Rattle.tso_model.specs.declared.entries.Claim.{Claim}
 use Rattle.tso_model.specs.declared.view.Setup.{Setup}
 use Rattle.tso_model.specs.Ledger.{Climb, place}
-use Rattle.tso_model.specs.Moves.{nothing_seen}
 use Rattle.tso_model.specs.Sound.{IsSetup}
-use Rattle.tso_model.specs.Words.{Inside}
-use Rattle.tso_core.specs.Laws.{Adds, Tells, learned, seen_at}
+use Rattle.tso_model.specs.Words.{Inside, passes}
+use Rattle.tso_core.specs.Laws.{Adds, IsAbove, IsFair, IsUpTo, Tells, seen_at, seen_by}
 use Rattle.tso_core.specs.Sound.{IsSound, HasDriver, HasClient}
 use Rattle.tso_core.specs.Asked.{IsCount}
 use Rattle.tso_core.specs.Steps.{Stepped}
@@ -27,15 +26,19 @@ use Rattle.pd_types.specs.declared.oracle.Actor.{Actor}
 use Rattle.pd_types.specs.declared.oracle.Actor.TheVariants.{Driver, Client}
 use Rattle.tso_core.proofs.Granted.{ledger, bounded}
 use Rattle.tso_core.proofs.Telling.{each_call_tells, is_new}
-use Rattle.pd_script.specs.Lawful.{AreLawful, IsLawful, IsLawfulScript, IsOneOf}
+use Rattle.pd_script.specs.Lawful.{AreLawful, IsLawful, IsLawfulScript, IsOneOf, actor_in}
+use Rattle.pd_types.specs.declared.request.Request.{Request}
+use Rattle.pd_types.specs.declared.request.Request.TheVariants.{Hello, Alive, Beat, Term, Retire}
+use Rattle.pd_script.specs.Scripts.{asker}
 use Rattle.pd_script.specs.declared.act.Act.{Act}
 use Rattle.pd_script.specs.declared.act.Act.TheVariants.{Cell, Lead, Tick, Resign, Take, Tell, Hear, Read, Campaign, Save, Raise, Publish, Probe, Look, Arm, Draw, Ask}
 use Rattle.pd_script.specs.declared.act.Line.{Line}
 use Rattle.pd_script.specs.declared.script.Mode.{Mode}
 use Rattle.pd_script.specs.declared.script.Script.{Script}
-use Rattle.pd_cluster.specs.History.{AreApart, AreFair, LiesInOne, StaysBounded, and_batch, batches_of, caller_of, seens_after, oracle_reply}
-use Rattle.pd_cluster.specs.Outcome.{IsSafeRun}
-use Rattle.pd_cluster.specs.Replay.{State, act_step, answer_text, answers_from, answers_of, answers_text, driver_of, line_step, named_cell, opening_cell, setup_of, start, state_after}
+use Rattle.pd_cluster.specs.Answers.{Answer, answer_text, answers_text, client_in, driver_in, named_cell, opening_cell, oracle_reply}
+use Rattle.pd_cluster.specs.History.{AreApart, HasPassed, IsFairAfter, LiesInOne, and_batch, batches_of, caller, opening_window, reply, windows_from, windows_of}
+use Rattle.pd_cluster.specs.Outcome.{IsSafeRun, StaysBounded}
+use Rattle.pd_cluster.specs.Replay.{State, act_step, answers_from, answers_of, line_step, setup_of, start, state_after}
 
 -- the ranges of a script are the oracle's
 pub has_driver : (k : Setup) (d : ℕ) → IsOneOf k.drivers d → HasDriver k d
@@ -47,9 +50,40 @@ has_client k c one = record { pos = one.pos; low = one.low }
 pub is_count : (n : ℕ) → Rattle.pd_script.specs.Lawful.IsCount n → IsCount n
 is_count n count = record { some = count.some; most = count.most }
 
+up_to_itself : (seen : Seen) → IsUpTo seen seen
+up_to_itself seen = record { term = omega arith; last = omega arith }
+
+-- nothing is done and nothing told of the oracle
+silent : (w : Whole) → IsSound w → (d c : ℕ) → (let r : Stepped = record { reply = Nothing; after = w } in Tells w d c r)
+silent w s d c = record {
+  sound = s;
+  setup = refl;
+  windows = refl;
+  batches = refl;
+  fair = λ seen is. tt;
+  own = λ has. refl;
+  risen = λ has. up_to_itself (seen_at w c);
+  shown = λ has. All-nil (λ (seen : Seen). IsUpTo seen (seen_at w c));
+  others = λ e has apart. refl;
+}
+
+-- nothing is done where the opening cell is told
+opens : (w : Whole) → IsSound w → (saved term : ℕ) → (let r : Stepped = record { reply = CellRead (record { saved = saved; term = term }); after = w } in Tells w 0 0 r)
+opens w s saved term = record {
+  sound = s;
+  setup = refl;
+  windows = refl;
+  batches = refl;
+  fair = λ seen is. tt;
+  own = λ has. refl;
+  risen = λ has. up_to_itself (seen_at w 0);
+  shown = λ has. All-nil (λ (seen : Seen). IsUpTo seen (seen_at w 0));
+  others = λ e has apart. refl;
+}
+
 -- what a line's answer tells
-act_tells : (w : Whole) → IsSound w → (act : Act) → IsLawful w.setup.drivers w.setup.clients act → Tells w (caller_of act) (act_step w act)
-act_tells w s (Cell saved term) asked = record { sound = s; setup = refl; batches = refl; fair = λ seen is. tt; own = λ has. refl; others = λ e has apart. refl }
+act_tells : (w : Whole) → IsSound w → (act : Act) → IsLawful w.setup.drivers w.setup.clients act → Tells w (driver_in (actor_in act)) (client_in (actor_in act)) (act_step w act)
+act_tells w s (Cell saved term) asked = opens w s saved term
 act_tells w s (Lead driver now) asked = (each_call_tells w s).lead driver now (has_driver w.setup driver asked.0)
 act_tells w s (Tick driver now) asked = (each_call_tells w s).tick driver now (has_driver w.setup driver asked.0)
 act_tells w s (Resign driver) asked = (each_call_tells w s).resign driver (has_driver w.setup driver asked)
@@ -65,7 +99,7 @@ act_tells w s (Probe driver now) asked = (each_call_tells w s).step (Driver driv
 act_tells w s (Look client driver) asked = (each_call_tells w s).step (Client client) (ToLook driver) (has_client w.setup client asked.0) (has_driver w.setup driver asked.1)
 act_tells w s (Arm client n) asked = (each_call_tells w s).step (Client client) (ToArm n) (has_client w.setup client asked.0) (is_count n asked.1)
 act_tells w s (Draw client) asked = (each_call_tells w s).step (Client client) ToDraw (has_client w.setup client asked) tt
-act_tells w s (Ask driver request) asked = record { sound = s; setup = refl; batches = refl; fair = λ seen is. tt; own = λ has. refl; others = λ e has apart. refl }
+act_tells w s (Ask driver request) asked = silent w s (driver_in (Some (asker driver request))) (client_in (Some (asker driver request)))
 
 -- an answer grants a batch, or nothing
 record IsDull (r : Reply) : Type 0 where
@@ -245,47 +279,131 @@ same_turn state number actor (Arm client n) = refl
 same_turn state number actor (Draw client) = refl
 same_turn state number actor (Ask driver request) = refl
 
+has_or_not : (k : Setup) (c : ℕ) → HasClient k c ⊎ (HasClient k c → ⊥)
+has_or_not k c = by (order 0 c) (order k.clients c)
+  where
+    order : (a b : ℕ) → (a < b) ⊎ (b ≤ a)
+    order a b = grind arith
+
+    by : (0 < c) ⊎ (c ≤ 0) → (k.clients < c) ⊎ (c ≤ k.clients) → HasClient k c ⊎ (HasClient k c → ⊥)
+    by (inr none) other = inr (λ has. absurd (omega (arith, has.pos)))
+    by (inl some) (inl past) = inr (λ has. absurd (omega (arith, has.low)))
+    by (inl some) (inr low) = inl (record { pos = some; low = low })
+
+above_more : (a b : Seen) (batch : Batch) → IsUpTo a b → IsAbove b batch → IsAbove a batch
+above_more a b batch upto above = record { term = omega (arith, upto.term, above.term); last = omega (arith, upto.last, above.last) }
+
+-- a batch that is granted to a client is above this pair
+abbrev Exceeds : ℕ → Seen → Answer → Type 0
+Exceeds c seen answer = caller answer ≡ c → (batch : Batch) → reply answer ≡ Got batch → IsAbove seen batch
+
+-- what an answer grants is above all that its client had seen, whatever counts as seen of nobody
+exceeds_now : (w : Whole) (d c : ℕ) (r : Stepped) → Tells w d c r → (seen : Seen) → (HasClient w.setup c → IsUpTo seen (seen_at w c)) → (batch : Batch) → r.reply ≡ Got batch → IsAbove seen batch
+exceeds_now w d c r tells seen upto batch is = by (has_or_not w.setup c)
+  where
+    by : HasClient w.setup c ⊎ (HasClient w.setup c → ⊥) → IsAbove seen batch
+    by (inl has) = above_more seen (seen_at w c) batch (upto has) (subst (λ (x : Reply). IsFair x (seen_at w c)) is (tells.fair (seen_at w c) (λ own. refl)))
+    by (inr none) = subst (λ (x : Reply). IsFair x seen) is (tells.fair seen (λ has. absurd (none has)))
+
+up_to_more : (a b c : Seen) → IsUpTo a b → IsUpTo b c → IsUpTo a c
+up_to_more a b c one two = record { term = omega (arith, one.term, two.term); last = omega (arith, one.last, two.last) }
+
+-- no client's pair falls
+rises_all : (w : Whole) (d c : ℕ) (r : Stepped) → Tells w d c r → (e : ℕ) → HasClient w.setup e → IsUpTo (seen_at w e) (seen_at r.after e)
+rises_all w d c r told e has = cases (nat_eq c e) refl
+  where
+    same_or : (a b : ℕ) → nat_eq a b ≡ true → a ≡ b
+    same_or a b h = grind (arith, nat_tests)
+
+    differ : (a b : ℕ) → nat_eq a b ≡ false → b ≡ a → ⊥
+    differ a b h k = grind (arith, nat_tests)
+
+    kept : (x y : Seen) → y ≡ x → IsUpTo x y
+    kept x y is = record { term = omega (arith, ap (λ (s : Seen). s.term) is); last = omega (arith, ap (λ (s : Seen). s.last) is) }
+
+    cases : (test : Bool) → nat_eq c e ≡ test → IsUpTo (seen_at w e) (seen_at r.after e)
+    cases true is = subst (λ (x : ℕ). HasClient w.setup x → IsUpTo (seen_at w x) (seen_at r.after x)) (same_or c e is) told.risen has
+    cases false is = kept (seen_at w e) (seen_at r.after e) (told.others e has (differ c e is))
+
+-- of each element all, so all of each
+all_swap : {A B : Type 0} (P : A → B → Type 0) (xs : List A) (ys : List B) → AllByRecursion (λ x. AllByRecursion (P x) ys) xs → AllByRecursion (λ y. AllByRecursion (λ x. P x y) xs) ys
+all_swap {B = B} P [] ys all = empty ys
+  where
+    empty : (zs : List B) → AllByRecursion (λ y. AllByRecursion (λ x. P x y) []) zs
+    empty [] = tt
+    empty (z ∷ zs) = (tt, empty zs)
+all_swap {B = B} P (x ∷ xs) ys all = both ys all.0 (all_swap P xs ys all.1)
+  where
+    both : (zs : List B) → AllByRecursion (P x) zs → AllByRecursion (λ y. AllByRecursion (λ x. P x y) xs) zs → AllByRecursion (λ y. AllByRecursion (λ x. P x y) (x ∷ xs)) zs
+    both [] one more = tt
+    both (z ∷ zs) one more = ((one.0, more.0), both zs one.1 more.1)
+
 -- a whole run from a state
-record Runs (state : State) (seens : ℕ → Seen) (lines : List Line) : Type 0 where
+record Runs (state : State) (lines : List Line) : Type 0 where
   sound : IsSound (state_after state lines).oracle
-  fair : AreFair seens (answers_from state lines)
+  exceed : AllPairs IsFairAfter (answers_from state lines)
+  ahead : (c : ℕ) (seen : Seen) → (HasClient state.oracle.setup c → IsUpTo seen (seen_at state.oracle c)) → AllByRecursion (Exceeds c seen) (answers_from state lines)
+  passed : AllByRecursion HasPassed (answers_from state lines)
+  windows : windows_from state.oracle.windows (answers_from state lines) ≡ (state_after state lines).oracle.windows
   prints : Prints state.oracle.batches (state_after state lines).oracle.batches (batches_of (answers_from state lines))
   cursors : StaysBounded state lines
 
--- what the clients have seen is what the answers said
-abbrev Know : Whole → (ℕ → Seen) → Type 0
-Know w seens = (c : ℕ) → HasClient w.setup c → seen_at w c ≡ seens c
-
-no_both : false ≡ true → ⊥
-no_both e = cc
-
-seens_cond : (w : Whole) (r : Stepped) (c e : ℕ) (seens : ℕ → Seen) → Tells w c r → Know w seens → HasClient w.setup e → seen_at r.after e ≡ seens_after seens c r.reply e
-seens_cond w r c e seens tells know has = cases (nat_eq c e) refl
-  where
-    cases : (test : Bool) → nat_eq c e ≡ test → seen_at r.after e ≡ cond test (learned r.reply (seens e)) (seens e)
-    cases true same =
-        let is : c ≡ e = grind (arith, nat_tests, same) in
-        subst (λ (x : ℕ). HasClient w.setup x → seen_at r.after x ≡ learned r.reply (seens x)) is (λ own. tells.own own ∙ ap (learned r.reply) (know c own)) has
-    cases false other = tells.others e has (λ same. let not_same : nat_eq c e ≡ true = grind (arith, nat_tests, same) in no_both (sym other ∙ not_same)) ∙ know e has
-
 -- the lines of a script
-abbrev AreAsked : Setup → List Line → Type 0
-AreAsked k lines = AllByRecursion (λ line. IsLawful k.drivers k.clients line.act) lines
+record IsAsked (k : Setup) (line : Line) : Type 0 where
+  lawful : IsLawful k.drivers k.clients line.act
+  actor : line.actor ≡ actor_in line.act
 
-runs : (lines : List Line) (state : State) (seens : ℕ → Seen) → IsSound state.oracle → Know state.oracle seens → AreAsked state.oracle.setup lines → Runs state seens lines
-runs [] state seens s know asked = record { sound = s; fair = tt; prints = prints_nothing state.oracle.batches; cursors = bounded state.oracle s }
-runs (line ∷ lines) state seens s know asked =
-    let c : ℕ = caller_of line.act in
+abbrev AreAsked : Setup → List Line → Type 0
+AreAsked k lines = AllByRecursion (IsAsked k) lines
+
+none_exceed : AllPairs IsFairAfter []
+none_exceed i j d before within = absurd (omega (arith, within))
+
+line_told : (state : State) (line : Line) → IsSound state.oracle → IsAsked state.oracle.setup line → Tells state.oracle (driver_in line.actor) (client_in line.actor) (oracle_turn state line)
+line_told state line s asked =
+    subst (λ (a : Option Actor). Tells state.oracle (driver_in a) (client_in a) (oracle_turn state line)) (sym asked.actor)
+    (subst (λ (t : Stepped). Tells state.oracle (driver_in (actor_in line.act)) (client_in (actor_in line.act)) t) (sym (same_turn state line.number line.actor line.act)) (act_tells state.oracle s line.act asked.lawful))
+
+has_passed : (state : State) (line : Line) (d c : ℕ) → Tells state.oracle d c (oracle_turn state line) → HasPassed (record { line = line; said = (line_step state line).said })
+has_passed state line d c tells at hi n is = by (has_or_not state.oracle.setup c)
+  where
+    by : HasClient state.oracle.setup c ⊎ (HasClient state.oracle.setup c → ⊥) → passes at hi n ≡ true
+    by either = subst (λ (x : Reply). IsFair x (seen_at state.oracle c)) is (tells.fair (seen_at state.oracle c) (λ has. refl))
+
+fair_one : (answer later : Answer) (c : ℕ) → caller answer ≡ c → AllByRecursion (λ seen. Exceeds c seen later) (seen_by (reply answer)) → IsFairAfter answer later
+fair_one answer later c is all same batch got = All-from_recursion (λ seen. IsAbove seen batch) (seen_by (reply answer))
+    (all_weaker (λ seen. Exceeds c seen later) (λ seen. IsAbove seen batch) (λ seen exceeds. exceeds (sym same ∙ is) batch got) (seen_by (reply answer)) all)
+
+fair_after : (answer : Answer) (c : ℕ) (laters : List Answer) → caller answer ≡ c → AllByRecursion (λ later. AllByRecursion (λ seen. Exceeds c seen later) (seen_by (reply answer))) laters → All (IsFairAfter answer) laters
+fair_after answer c laters is all = All-from_recursion (IsFairAfter answer) laters
+    (all_weaker (λ later. AllByRecursion (λ seen. Exceeds c seen later) (seen_by (reply answer))) (IsFairAfter answer) (λ later one. fair_one answer later c is one) laters all)
+
+shown_ahead : (next : State) (lines : List Line) → Runs next lines → (c : ℕ) (seens : List Seen) → (HasClient next.oracle.setup c → AllByRecursion (λ s. IsUpTo s (seen_at next.oracle c)) seens) → AllByRecursion (λ seen. AllByRecursion (Exceeds c seen) (answers_from next lines)) seens
+shown_ahead next lines rest c [] upto = tt
+shown_ahead next lines rest c (seen ∷ seens) upto = (rest.ahead c seen (λ own. (upto own).0), shown_ahead next lines rest c seens (λ own. (upto own).1))
+
+runs : (lines : List Line) (state : State) → IsSound state.oracle → AreAsked state.oracle.setup lines → Runs state lines
+runs [] state s asked = record { sound = s; exceed = none_exceed; ahead = λ c seen upto. tt; passed = tt; windows = refl; prints = prints_nothing state.oracle.batches; cursors = bounded state.oracle s }
+runs (line ∷ lines) state s asked =
     let r : Stepped = oracle_turn state line in
     let next : State = (line_step state line).after in
-    let tells : Tells state.oracle c r = subst (λ (t : Stepped). Tells state.oracle c t) (sym (same_turn state line.number line.actor line.act)) (act_tells state.oracle s line.act asked.0) in
-    let rest = runs lines next (seens_after seens c r.reply) tells.sound
-    (λ e has. seens_cond state.oracle r c e seens tells know (subst (λ (k : Setup). HasClient k e) tells.setup has))
-    (subst (λ (k : Setup). AreAsked k lines) (sym tells.setup) asked.1) in
+    let answer : Answer = record { line = line; said = (line_step state line).said } in
+    let c : ℕ = client_in line.actor in
+    let told : Tells state.oracle (driver_in line.actor) c r = line_told state line s asked.0 in
+    let rest : Runs next lines = runs lines next told.sound (subst (λ (k : Setup). AreAsked k lines) (sym told.setup) asked.1) in
+    let has : (e : ℕ) → HasClient next.oracle.setup e → HasClient state.oracle.setup e = λ e own. subst (λ (k : Setup). HasClient k e) told.setup own in
+    let shown : AllByRecursion (λ seen. AllByRecursion (Exceeds c seen) (answers_from next lines)) (seen_by r.reply) =
+    shown_ahead next lines rest c (seen_by r.reply) (λ own. recursion_from_All _ _ (told.shown (has c own))) in
     record {
       sound = rest.sound;
-      fair = (tells.fair (seens c) (know c), rest.fair);
-      prints = prints_one next.oracle tells.sound r.reply state.oracle.batches (state_after next lines).oracle.batches (batches_of (answers_from next lines)) tells.batches rest.prints;
+      exceed = AllPairs-cons IsFairAfter answer (answers_from next lines) (fair_after answer c (answers_from next lines) refl (all_swap (λ (seen : Seen) (later : Answer). Exceeds c seen later) (seen_by r.reply) (answers_from next lines) shown)) rest.exceed;
+      ahead = λ e seen upto. (
+        λ same batch is. exceeds_now state.oracle (driver_in line.actor) c r told seen (λ own. subst (λ (x : ℕ). HasClient state.oracle.setup x → IsUpTo seen (seen_at state.oracle x)) (sym same) upto own) batch is,
+        rest.ahead e seen (λ own. up_to_more seen (seen_at state.oracle e) (seen_at next.oracle e) (upto (has e own)) (rises_all state.oracle (driver_in line.actor) c r told e (has e own))),
+      );
+      passed = (has_passed state line (driver_in line.actor) c told, rest.passed);
+      windows = ap (λ (ws : List Window). windows_from ws (answers_from next lines)) (sym told.windows) ∙ rest.windows;
+      prints = prints_one next.oracle told.sound r.reply state.oracle.batches (state_after next lines).oracle.batches (batches_of (answers_from next lines)) told.batches rest.prints;
       cursors = (bounded state.oracle s, rest.cursors);
     }
 
@@ -320,26 +438,42 @@ is_setup mode script lawful = record {
   cell = lines_cell mode script.drivers script.clients true script.lines lawful.lines;
 }
 
-each_asked : (mode : Mode) (drivers clients : ℕ) (first : Bool) (lines : List Line) → AreLawful mode drivers clients first lines → AllByRecursion (λ line. IsLawful drivers clients line.act) lines
-each_asked mode drivers clients first [] asked = tt
-each_asked mode drivers clients first (line ∷ lines) asked = (asked.1, each_asked mode drivers clients false lines asked.2)
+each_lawful : (mode : Mode) (drivers clients : ℕ) (first : Bool) (lines : List Line) → AreLawful mode drivers clients first lines → AllByRecursion (λ line. IsLawful drivers clients line.act) lines
+each_lawful mode drivers clients first [] asked = tt
+each_lawful mode drivers clients first (line ∷ lines) asked = (asked.1, each_lawful mode drivers clients false lines asked.2)
 
 pub all_asked : (mode : Mode) (script : Script) → IsLawfulScript mode script → All (λ line. IsLawful script.drivers script.clients line.act) script.lines
-all_asked mode script lawful = All-from_recursion _ _ (each_asked mode script.drivers script.clients true script.lines lawful.lines)
+all_asked mode script lawful = All-from_recursion _ _ (each_lawful mode script.drivers script.clients true script.lines lawful.lines)
+
+with_actors : (k : Setup) (lines : List Line) → AllByRecursion (λ line. IsLawful k.drivers k.clients line.act) lines → AllByRecursion (λ line. line.actor ≡ actor_in line.act) lines → AreAsked k lines
+with_actors k [] lawful actors = tt
+with_actors k (line ∷ lines) lawful actors = (record { lawful = lawful.0; actor = actors.0 }, with_actors k lines lawful.1 actors.1)
+
+-- the answers have the lines
+pub same_lines : (lines : List Line) (state : State) → map (λ (answer : Answer). answer.line) (answers_from state lines) ≡ lines
+same_lines [] state = refl
+same_lines (line ∷ lines) state = ap (λ (ls : List Line). line ∷ ls) (same_lines lines (line_step state line).after)
 
 pub history : (mode : Mode) (script : Script) → IsLawfulScript mode script → IsSafeRun script
 history mode script lawful =
     let new = is_new (setup_of script) (is_setup mode script lawful) in
-    let run = runs script.lines (start script) (λ _. nothing_seen) new.sound new.unseen (each_asked mode script.drivers script.clients true script.lines lawful.lines) in
+    let asked = with_actors (setup_of script) script.lines (each_lawful mode script.drivers script.clients true script.lines lawful.lines) (recursion_from_All _ _ lawful.actors) in
+    let run = runs script.lines (start script) new.sound asked in
     let last : Whole = (state_after (start script) script.lines).oracle in
     let l = ledger last run.sound in
+    let told : windows_of (answers_of script) ≡ last.windows =
+    ap (λ (ls : List Line). windows_from (opening_window (opening_cell ls) ∷ []) (answers_of script)) (same_lines script.lines (start script))
+    ∙ ap (λ (ws : List Window). windows_from ws (answers_of script)) (sym new.windows) ∙ run.windows in
     record {
       answers = record {
-        rises = run.prints.apart;
-        follow = record { opening = last.setup.cell; claims = l.claims; are = l.windows; rise = l.rise };
-        inside = All-from_recursion _ _ (all_weaker (λ b. In b last.batches) (LiesInOne last.windows) (λ b is. lies_in_one last run.sound b is) (batches_of (answers_of script)) run.prints.among);
-        fair = run.fair;
+        history = record {
+          rises = run.prints.apart;
+          follow = record { opening = last.setup.cell; claims = l.claims; are = told ∙ l.windows; rise = l.rise };
+          inside = subst (λ (ws : List Window). All (LiesInOne ws) (batches_of (answers_of script))) (sym told) (All-from_recursion _ _ (all_weaker (λ b. In b last.batches) (LiesInOne last.windows) (λ b is. lies_in_one last run.sound b is) (batches_of (answers_of script)) run.prints.among));
+        };
+        fair = record { exceed = run.exceed; passed = All-from_recursion _ _ run.passed };
       };
+      told = told;
       cursors = run.cursors;
     }
 
@@ -353,7 +487,14 @@ text_more state next line lines old new all after text before =
     ∙ ap (λ (v : State). old ++ (one ++ answers_text (answers_from v lines))) after ∙ before
 
 -- the driver that acts in a line is one of the oracle's, or 0
-pub driver_low : (drivers clients : ℕ) (act : Act) → IsLawful drivers clients act → driver_of act ≤ drivers
+asker_low : (drivers driver : ℕ) (request : Request) → driver ≤ drivers → driver_in (Some (asker driver request)) ≤ drivers
+asker_low drivers driver (Hello store moment address labels) low = omega arith
+asker_low drivers driver (Alive store moment) low = omega arith
+asker_low drivers driver (Beat store moment beat) low = omega arith
+asker_low drivers driver (Term term moment) low = low
+asker_low drivers driver Retire low = low
+
+driver_low : (drivers clients : ℕ) (act : Act) → IsLawful drivers clients act → driver_in (actor_in act) ≤ drivers
 driver_low drivers clients (Cell saved term) asked = omega arith
 driver_low drivers clients (Lead driver now) asked = asked.0.low
 driver_low drivers clients (Tick driver now) asked = asked.0.low
@@ -370,4 +511,7 @@ driver_low drivers clients (Probe driver now) asked = asked.0.low
 driver_low drivers clients (Look client driver) asked = omega arith
 driver_low drivers clients (Arm client n) asked = omega arith
 driver_low drivers clients (Draw client) asked = omega arith
-driver_low drivers clients (Ask driver request) asked = omega arith
+driver_low drivers clients (Ask driver request) asked = asker_low drivers driver request asked.low
+
+pub actor_low : (drivers clients : ℕ) (actor : Option Actor) (act : Act) → actor ≡ actor_in act → IsLawful drivers clients act → driver_in actor ≤ drivers
+actor_low drivers clients actor act is asked = subst (λ (a : Option Actor). driver_in a ≤ drivers) (sym is) (driver_low drivers clients act asked)

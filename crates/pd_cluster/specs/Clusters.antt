@@ -1,5 +1,5 @@
 -- What the replay in memory means.
-use Rattle.std.specs.Prelude.{◌≡◌, ◌+◌, List, length, map, reverse, false, All}
+use Rattle.std.specs.Prelude.{◌≡◌, ◌<◌, ◌+◌, ℕ, List, get_or, length, map, reverse, false, All}
 use Rattle.pd_state.specs.Clusters.{ClusterValue}
 use Rattle.pd_state.specs.declared.entry.Entry.{Entry}
 use Rattle.pd_cluster.specs.declared.replay.Replay.{Replay}
@@ -21,8 +21,13 @@ state_of replay = record { oracle = replay.core; leads = replay.leads.items; jou
 abbrev pub AreAlive : List ClusterValue → Type 0
 AreAlive clusters = All (λ cluster. cluster.dead ≡ false) clusters
 
--- there is a place for each driver and one before them, and each cluster lives
+-- each cluster is that of the driver whose number its place has
+abbrev pub AreNumbered : List ClusterValue → Type 0
+AreNumbered clusters = (d : ℕ) (any : ClusterValue) → d < length clusters → (get_or clusters d any).driver ≡ d
+
+-- there is a place for each driver and one before them, and each cluster lives and is its driver's
 pub record IsReady (replay : Replay) : Type 0 where
   pub leads : length replay.leads.items ≡ replay.core.setup.drivers + 1
   pub clusters : length replay.clusters.items ≡ replay.core.setup.drivers + 1
   pub alive : AreAlive replay.clusters.items
+  pub numbered : AreNumbered replay.clusters.items

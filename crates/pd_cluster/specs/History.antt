@@ -1,28 +1,25 @@
--- What the printed answers of the oracle keep, whatever the script is: no timestamp is granted twice.
-use Rattle.std.specs.Prelude.{nat_eq, if◌then◌else◌, ◌≡◌, ◌⊎◌, ◌<◌, ◌≤◌, ℕ, List, [], ◌∷◌, map, All, AllPairs, Contains}
+-- What the printed answers keep, whatever the script is: no timestamp is granted twice. All of it is said of the lines of a script and
+-- of their answers alone, as they stand on the paper.
+use Rattle.std.specs.Prelude.{◌≡◌, ◌⊎◌, ◌<◌, ◌≤◌, ℕ, true, List, [], ◌∷◌, map, All, AllPairs, Contains}
 use Rattle.pd_types.specs.declared.oracle.Batch.{Batch}
 use Rattle.pd_types.specs.declared.oracle.CellWord.{CellWord}
-use Rattle.pd_types.specs.declared.oracle.Seen.{Seen}
 use Rattle.pd_types.specs.declared.oracle.Window.{Window}
 use Rattle.pd_types.specs.Batch.{first_of}
-use Rattle.pd_script.specs.declared.act.Act.{Act}
-use Rattle.pd_script.specs.declared.act.Act.TheVariants.{Cell, Lead, Tick, Resign, Take, Tell, Hear, Read, Campaign, Save, Raise, Publish, Probe, Look, Arm, Draw, Ask}
-use Rattle.pd_script.specs.declared.act.Line.{Line}
 use Rattle.tso_model.specs.declared.entries.Claim.{Claim}
-use Rattle.tso_model.specs.Words.{Inside, opening_claim}
+use Rattle.tso_model.specs.Words.{Inside, opening_claim, passes}
 use Rattle.tso_model.specs.Ledger.{IsWindowList}
-use Rattle.tso_model.specs.Moves.{nothing_seen}
-use Rattle.tso_core.specs.Laws.{AreBounded, IsFair, learned}
+use Rattle.tso_core.specs.Laws.{IsAbove, seen_by, windows_told}
 use Rattle.tso_core.specs.declared.reply.Reply.{Reply}
-use Rattle.tso_core.specs.declared.reply.Reply.TheVariants.{Got, Nothing}
-use Rattle.pd_cluster.specs.declared.said.Said.{Said}
-use Rattle.pd_cluster.specs.declared.said.Said.TheVariants.{ByOracle, ByCluster}
-use Rattle.pd_cluster.specs.Replay.{Answer, State, line_step}
+use Rattle.tso_core.specs.declared.reply.Reply.TheVariants.{Got, Again}
+use Rattle.pd_cluster.specs.Answers.{Answer, client_in, driver_in, opening_cell, oracle_reply}
 
--- what the oracle answered; a cluster's answer says nothing of it
-abbrev pub oracle_reply : Said → Reply
-oracle_reply (ByOracle reply) = reply
-oracle_reply (ByCluster reply) = Nothing
+-- the oracle's part of an answer
+abbrev pub reply : Answer → Reply
+reply answer = oracle_reply answer.said
+
+-- the client that was answered; a driver's or a store's line has none, which is 0
+abbrev pub caller : Answer → ℕ
+caller answer = client_in answer.line.actor
 
 -- the batch of an answer, in front of others
 abbrev pub and_batch : Reply → List Batch → List Batch
@@ -32,7 +29,20 @@ and_batch _ batches = batches
 -- the batches that were printed, in the order of their lines
 abbrev pub batches_of : List Answer → List Batch
 batches_of [] = []
-batches_of (answer ∷ answers) = and_batch (oracle_reply answer.said) (batches_of answers)
+batches_of (answer ∷ answers) = and_batch (reply answer) (batches_of answers)
+
+-- the windows that answers tell, behind those before: `won` and `claimed` begin one, `saved` and `moved` make it longer
+abbrev pub windows_from : List Window → List Answer → List Window
+windows_from windows [] = windows
+windows_from windows (answer ∷ answers) = windows_from (windows_told (driver_in answer.line.actor) (reply answer) windows) answers
+
+-- the window of an opening cell, which no driver has
+abbrev pub opening_window : CellWord → Window
+opening_window cell = record { term = cell.term; driver = 0; lo = cell.saved; hi = cell.saved }
+
+-- the windows that the answers tell, from the opening one on
+abbrev pub windows_of : List Answer → List Window
+windows_of answers = windows_from (opening_window (opening_cell (map (λ (answer : Answer). answer.line) answers)) ∷ []) answers
 
 -- one batch lies below the other: its term isn't later, and its last timestamp is below the other's first, so no timestamp is in both (pd_types, `batches_apart_share_no_timestamp`)
 pub record IsBelow (a b : Batch) : Type 0 where
@@ -56,44 +66,27 @@ pub record LiesInOne (windows : List Window) (batch : Batch) : Type 0 where
   pub one : Contains windows window
   pub inside : Inside window batch
 
--- the client of a line; a driver's or a store's line has none, which is 0
-abbrev pub caller_of : Act → ℕ
-caller_of (Cell saved term) = 0
-caller_of (Lead driver now) = 0
-caller_of (Tick driver now) = 0
-caller_of (Resign driver) = 0
-caller_of (Take client driver n) = client
-caller_of (Tell client to) = client
-caller_of (Hear client) = client
-caller_of (Read driver now) = 0
-caller_of (Campaign driver) = 0
-caller_of (Save driver) = 0
-caller_of (Raise driver) = 0
-caller_of (Publish driver) = 0
-caller_of (Probe driver now) = 0
-caller_of (Look client driver) = client
-caller_of (Arm client n) = client
-caller_of (Draw client) = client
-caller_of (Ask driver request) = 0
-
--- what each client has seen after an answer to this one: the pair of its batch, or the greater of its own and a note's
-abbrev pub seens_after : (ℕ → Seen) → ℕ → Reply → ℕ → Seen
-seens_after seens caller reply client = if nat_eq caller client then learned reply (seens client) else seens client
-
--- each batch is above all that its caller had seen before it, and each `again` passed the end of its window or of the logical part
-abbrev pub AreFair : (ℕ → Seen) → List Answer → Type 0
-AreFair seens [] = Unit {0}
-AreFair seens (answer ∷ answers) = IsFair (oracle_reply answer.said) (seens (caller_of answer.line.act)) × AreFair (seens_after seens (caller_of answer.line.act) (oracle_reply answer.said)) answers
-
--- The batches are disjoint and rise by term and timestamp, each inside a window of its own term; each caller's batches exceed
--- all it had seen, notes included; each `again` passed. All of this holds of the first answers too, wherever a fault cut the text.
-pub record IsSafe (windows : List Window) (answers : List Answer) : Type 0 where
-  pub rises : AllPairs AreApart (batches_of answers)
+-- The one history: the batches are disjoint and rise by term and timestamp, the windows follow one another, and each batch lies
+-- inside a window of its own term and driver
+pub record IsOneHistory (windows : List Window) (batches : List Batch) : Type 0 where
+  pub rises : AllPairs AreApart batches
   pub follow : AreWindows windows
-  pub inside : All (LiesInOne windows) (batches_of answers)
-  pub fair : AreFair (λ _. nothing_seen) answers
+  pub inside : All (LiesInOne windows) batches
 
--- Before and after each line, each cursor stands at most 64 milliseconds past the saved end, however many draws were refused
-abbrev pub StaysBounded : State → List Line → Type 0
-StaysBounded state [] = AreBounded state.oracle
-StaysBounded state (line ∷ lines) = AreBounded state.oracle × StaysBounded (line_step state line).after lines
+-- what the later answer grants is above all that the earlier one showed the same client, a batch or a note, by term and by number
+abbrev pub IsFairAfter : Answer → Answer → Type 0
+IsFairAfter earlier later = caller earlier ≡ caller later → (batch : Batch) → reply later ≡ Got batch → All (λ seen. IsAbove seen batch) (seen_by (reply earlier))
+
+-- an answer `again` passed the end of its window or of the logical part
+abbrev pub HasPassed : Answer → Type 0
+HasPassed answer = (at hi n : ℕ) → reply answer ≡ Again at hi n → passes at hi n ≡ true
+
+-- what callers find: each batch above all that its caller had seen, notes included, and each `again` past an end
+pub record AreFair (answers : List Answer) : Type 0 where
+  pub exceed : AllPairs IsFairAfter answers
+  pub passed : All HasPassed answers
+
+-- The headline, of the answers to a script
+pub record IsSafe (answers : List Answer) : Type 0 where
+  pub history : IsOneHistory (windows_of answers) (batches_of answers)
+  pub fair : AreFair answers

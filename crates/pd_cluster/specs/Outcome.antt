@@ -1,10 +1,11 @@
 -- What a command answers to a text, and what a run of the program leaves of it (own choice).
-use Rattle.std.specs.Prelude.{◌≡◌, ◌⊎◌, ℕ, ◌<◌, List, [], ◌++◌, length, codes, Option, Result, Ok, Err, nat_lt, if◌then◌else◌}
+use Rattle.std.specs.Prelude.{◌≡◌, ◌⊎◌, ℕ, ◌+◌, ◌<◌, List, [], ◌∷◌, ◌++◌, length, map, codes, Bool, true, false, Option, Result, Ok, Err, nat_lt, if◌then◌else◌}
 use Rattle.std.specs.Fmt.{decimal}
 use Rattle.std.specs.Io.KnownBytes.{Appends, Consumes, IsAtEnd, Keeps}
+use Rattle.pd_lines.specs.Input.{TakesFew}
 use Rattle.pd_lines.specs.Output.{WritesPrefix}
 use Rattle.pd_types.specs.Timestamp.{physical, logical}
-use Rattle.pd_types.specs.declared.oracle.Window.{Window}
+use Rattle.tso_core.specs.Laws.{AreBounded}
 use Rattle.pd_script.specs.Numbering.{reason_number}
 use Rattle.pd_script.specs.Scripts.{script_of}
 use Rattle.pd_script.specs.declared.refusal.Limited.{Limited}
@@ -13,8 +14,10 @@ use Rattle.pd_script.specs.declared.refusal.ScriptRefusal.{ScriptRefusal}
 use Rattle.pd_script.specs.declared.refusal.ScriptRefusal.TheVariants.{Fault, Limit as PastLimit, NoMemory as NoRoom}
 use Rattle.pd_script.specs.declared.script.Mode.TheVariants.{Replay as ByLine}
 use Rattle.pd_script.specs.declared.script.Script.{Script}
-use Rattle.pd_cluster.specs.History.{IsSafe, StaysBounded}
-use Rattle.pd_cluster.specs.Replay.{Answer, answers_of, answers_text, start, state_after}
+use Rattle.pd_script.specs.declared.act.Line.{Line}
+use Rattle.pd_cluster.specs.Answers.{Answer, answers_text}
+use Rattle.pd_cluster.specs.History.{IsSafe, windows_of}
+use Rattle.pd_cluster.specs.Replay.{State, answers_of, line_step, start, state_after}
 use Rattle.pd_cluster.specs.declared.command.Command.{Command}
 use Rattle.pd_cluster.specs.declared.command.Command.TheVariants.{Replay, Tso}
 use Rattle.pd_cluster.specs.declared.status.Status.{Status}
@@ -64,9 +67,15 @@ abbrev pub IsOutcome : Command → List ℕ → Outcome → Type 0
 IsOutcome Replay text outcome = outcome ≡ replay_outcome text
 IsOutcome (Tso timestamp) text outcome = outcome ≡ tso_outcome timestamp
 
--- the answers to a script are a safe history, and its cursors stay bounded
+-- Before and after each line, each cursor stands at most 64 milliseconds past the saved end, however many draws were refused
+abbrev pub StaysBounded : State → List Line → Type 0
+StaysBounded state [] = AreBounded state.oracle
+StaysBounded state (line ∷ lines) = AreBounded state.oracle × StaysBounded (line_step state line).after lines
+
+-- the answers to a script are a safe history, the windows that they tell are those of the oracle, and its cursors stay bounded
 pub record IsSafeRun (script : Script) : Type 0 where
-  pub answers : IsSafe (state_after (start script) script.lines).oracle.windows (answers_of script)
+  pub answers : IsSafe (answers_of script)
+  pub told : windows_of (answers_of script) ≡ (state_after (start script) script.lines).oracle.windows
   pub cursors : StaysBounded (start script) script.lines
 
 -- the oracle's part of the outcome is safe, where there is a script
@@ -95,44 +104,63 @@ Leaves outcome WriteFault old new = WritesPrefix old new outcome.text
 Leaves outcome NoMemory old new = WritesPrefix old new outcome.text
 Leaves outcome status old new = (status ≡ outcome.status) × Appends old new outcome.text
 
--- the text that was taken, a lawful outcome, what was written of it, and the history in it
+-- the text that was taken, a lawful outcome, what was written of it, and that it is safe
 pub record Answers (command : Command) (status : Status) (left_old left_new held_old held_new : Option (List ℕ)) : Type 0 where
   pub text : List ℕ
   pub outcome : Outcome
   pub taken : Reads command left_old left_new text
   pub lawful : IsOutcome command text outcome
   pub written : Leaves outcome status held_old held_new
-  pub history : SafeOutcome command text
+  pub safe : SafeOutcome command text
 
--- answers that are a safe history have this text, and it is written in this way
-pub record PrintsSafely (Writes : List ℕ → Type 0) : Type 0 where
-  pub windows : List Window
+-- each line of the script has an answer, in the order of the lines; their text is written in this way; and the answers are safe
+pub record PrintsSafely (script : Script) (Writes : List ℕ → Type 0) : Type 0 where
   pub answers : List Answer
+  pub lines : map (λ (answer : Answer). answer.line) answers ≡ script.lines
   pub printed : Writes (answers_text answers)
-  pub safe : IsSafe windows answers
+  pub safe : IsSafe answers
 
--- a text that has no answers, a limit or the line at fault, is written in this way
-abbrev pub PrintsRefusal : (List ℕ → Type 0) → Type 0
-PrintsRefusal Writes = Writes limit_bytes.text ⊎ ((refusal : ScriptRefusal) × Writes (refusal_outcome refusal).text)
+-- the answers of a script are written in this way, or a text that has none: the line at fault, or the limit
+abbrev pub Prints : Result Script ScriptRefusal → (List ℕ → Type 0) → Type 0
+Prints (Ok script) Writes = PrintsSafely script Writes
+Prints (Err refusal) Writes = Writes (refusal_outcome refusal).text
 
--- The headline: what is printed at the end is the text of answers that grant no timestamp twice. Where a fault of the sink or
--- want of memory cut it, it is a prefix of such a text, or of a text that has no answers.
-abbrev pub GrantsNoneTwice : Status → Option (List ℕ) → Option (List ℕ) → Type 0
-GrantsNoneTwice Done old new = PrintsSafely (Appends old new)
-GrantsNoneTwice WriteFault old new = PrintsSafely (WritesPrefix old new) ⊎ PrintsRefusal (WritesPrefix old new)
-GrantsNoneTwice NoMemory old new = PrintsSafely (WritesPrefix old new) ⊎ PrintsRefusal (WritesPrefix old new)
-GrantsNoneTwice Usage old new = Unit {0}
-GrantsNoneTwice Refused old new = Unit {0}
-GrantsNoneTwice ReadFault old new = Unit {0}
-GrantsNoneTwice Limit old new = Unit {0}
+-- the same, where the text that was read may be too long
+abbrev pub PrintsUnless : Bool → Result Script ScriptRefusal → (List ℕ → Type 0) → Type 0
+PrintsUnless true read Writes = Writes limit_bytes.text
+PrintsUnless false read Writes = Prints read Writes
+
+-- The headline: what is printed of the text that was taken are answers to its lines that grant no timestamp twice
+pub record GrantsNoneTwice (left_old left_new : Option (List ℕ)) (Writes : List ℕ → Type 0) : Type 0 where
+  pub text : List ℕ
+  pub taken : Takes left_old left_new text
+  pub printed : PrintsUnless (nat_lt 16777216 (length text)) (script_of ByLine text) Writes
+
+-- The headline by status: printed whole, or cut to a prefix by a fault of the sink or want of memory; nothing was printed after a
+-- failed read, or where memory was wanting before that
+abbrev pub ReplaySafely : Status → Option (List ℕ) → Option (List ℕ) → Option (List ℕ) → Option (List ℕ) → Type 0
+ReplaySafely WriteFault left_old left_new held_old held_new = GrantsNoneTwice left_old left_new (WritesPrefix held_old held_new)
+ReplaySafely NoMemory left_old left_new held_old held_new = Keeps held_old held_new ⊎ GrantsNoneTwice left_old left_new (WritesPrefix held_old held_new)
+ReplaySafely ReadFault left_old left_new held_old held_new = Keeps held_old held_new
+ReplaySafely status left_old left_new held_old held_new = GrantsNoneTwice left_old left_new (Appends held_old held_new)
 
 -- the headline of a command; `tso` prints no answers
-abbrev pub IsHeadline : Command → Status → Option (List ℕ) → Option (List ℕ) → Type 0
-IsHeadline Replay status old new = GrantsNoneTwice status old new
-IsHeadline (Tso timestamp) status old new = Unit {0}
+abbrev pub IsHeadline : Command → Status → Option (List ℕ) → Option (List ℕ) → Option (List ℕ) → Option (List ℕ) → Type 0
+IsHeadline Replay status left_old left_new held_old held_new = ReplaySafely status left_old left_new held_old held_new
+IsHeadline (Tso timestamp) status left_old left_new held_old held_new = Unit {0}
+
+-- a read that failed took no more than the limit; `tso` reads nothing, so that none fails
+abbrev pub IsUnread : Command → Option (List ℕ) → Option (List ℕ) → Type 0
+IsUnread Replay old new = TakesFew old new 16777216
+IsUnread (Tso timestamp) old new = ⊥
 
 -- how a run of a command may end
 abbrev pub Ends : Command → Status → Option (List ℕ) → Option (List ℕ) → Option (List ℕ) → Option (List ℕ) → Type 0
-Ends command ReadFault left_old left_new held_old held_new = Keeps held_old held_new
+Ends command ReadFault left_old left_new held_old held_new = IsUnread command left_old left_new × Keeps held_old held_new
 Ends command NoMemory left_old left_new held_old held_new = Keeps held_old held_new ⊎ Answers command NoMemory left_old left_new held_old held_new
 Ends command status left_old left_new held_old held_new = Answers command status left_old left_new held_old held_new
+
+-- what a command asks of the source, however it ends: `replay` at most the limit and one piece, `tso` nothing
+abbrev pub Asks : Command → Option (List ℕ) → Option (List ℕ) → Type 0
+Asks Replay old new = TakesFew old new (16777216 + 4096)
+Asks (Tso timestamp) old new = Keeps old new

@@ -1,12 +1,9 @@
 -- The answers of a script, a line after the other over the state that the lines before leave: the oracle's, and a cluster for each
 -- driver, whose journal is all that is known of it.
-use Rattle.std.specs.Prelude.{ℕ, ◌+◌, List, [], ◌∷◌, ◌++◌, codes, get_or, slice_set, replicate, nat_eq, Option, Some, None, if◌then◌else◌}
-use Rattle.std.specs.Fmt.{decimal}
-use Rattle.pd_types.specs.declared.oracle.Actor.{Actor}
+use Rattle.std.specs.Prelude.{ℕ, ◌+◌, List, [], ◌∷◌, get_or, slice_set, replicate, nat_eq, Option, Some, None, if◌then◌else◌}
 use Rattle.pd_types.specs.declared.oracle.Actor.TheVariants.{Driver, Client}
 use Rattle.pd_types.specs.declared.request.Request.{Request}
 use Rattle.pd_types.specs.declared.request.Request.TheVariants.{Term, Retire}
-use Rattle.pd_types.specs.declared.oracle.CellWord.{CellWord}
 use Rattle.pd_script.specs.declared.act.Act.{Act}
 use Rattle.pd_script.specs.declared.act.Act.TheVariants.{Cell, Lead, Tick, Resign, Take, Tell, Hear, Read, Campaign, Save, Raise, Publish, Probe, Look, Arm, Draw, Ask}
 use Rattle.pd_script.specs.declared.act.Line.{Line}
@@ -17,7 +14,6 @@ use Rattle.tso_core.specs.Opened.{opened}
 use Rattle.tso_core.specs.Steps.{Stepped, step_of}
 use Rattle.tso_core.specs.Rows.{lead_of, tick_of, resigned_of, take_of}
 use Rattle.tso_core.specs.Notes.{tell_of, hear_of}
-use Rattle.tso_core.specs.Text.{reply_text}
 use Rattle.tso_core.specs.declared.reply.Kind.TheVariants.{Read as ToRead, Campaign as ToCampaign, Save as ToSave, Raise as ToRaise, Publish as ToPublish, Probe as ToProbe, Look as ToLook, Arm as ToArm, Draw as ToDraw}
 use Rattle.tso_core.specs.declared.reply.Reply.{Reply}
 use Rattle.tso_core.specs.declared.reply.Reply.TheVariants.{Won, Lost, Resigned, Nothing, CellRead, Claimed, Probed, Published}
@@ -25,24 +21,16 @@ use Rattle.pd_state.specs.declared.entry.Entry.{Entry}
 use Rattle.pd_state.specs.Clusters.{entry_of}
 use Rattle.pd_state.specs.Legal.{first_reply}
 use Rattle.pd_state.specs.State.{part_after}
-use Rattle.pd_state.specs.ReplyText.{reply_text as told_text}
+use Rattle.pd_script.specs.Scripts.{asker}
+use Rattle.pd_cluster.specs.Answers.{Answer, driver_in, opening_cell}
 use Rattle.pd_cluster.specs.declared.lead.BegunLead.{BegunLead}
 use Rattle.pd_cluster.specs.declared.said.Said.{Said}
 use Rattle.pd_cluster.specs.declared.said.Said.TheVariants.{ByOracle, ByCluster}
 
--- a line with its answer
-pub record Answer : Type 0 where
-  pub line : Line
-  pub said : Said
-
--- the cell
-abbrev pub cell : ℕ → ℕ → CellWord
-cell saved term = record { saved = saved; term = term }
-
 -- what a line does to the oracle; a `cell` line, which named the opening cell, answers that cell, and what is asked of a cluster
 -- does nothing to the oracle
 abbrev pub act_step : Whole → Act → Stepped
-act_step w (Cell saved term) = record { reply = CellRead (cell saved term); after = w }
+act_step w (Cell saved term) = record { reply = CellRead (record { saved = saved; term = term }); after = w }
 act_step w (Lead driver now) = lead_of w driver now
 act_step w (Tick driver now) = tick_of w driver now
 act_step w (Resign driver) = resigned_of w driver
@@ -66,26 +54,6 @@ pub record State : Type 0 where
   pub oracle : Whole
   pub leads : List (Option BegunLead)
   pub journals : List (List Entry)
-
--- the driver that acts in a line; 0 where none does
-abbrev pub driver_of : Act → ℕ
-driver_of (Cell saved term) = 0
-driver_of (Lead driver now) = driver
-driver_of (Tick driver now) = driver
-driver_of (Resign driver) = driver
-driver_of (Take client driver n) = 0
-driver_of (Tell client to) = 0
-driver_of (Hear client) = 0
-driver_of (Read driver now) = driver
-driver_of (Campaign driver) = driver
-driver_of (Save driver) = driver
-driver_of (Raise driver) = driver
-driver_of (Publish driver) = driver
-driver_of (Probe driver now) = driver
-driver_of (Look client driver) = 0
-driver_of (Arm client n) = 0
-driver_of (Draw client) = 0
-driver_of (Ask driver request) = 0
 
 -- the moment of a line that begins a lead or is one, else 0
 abbrev pub moment_of : Act → ℕ
@@ -121,27 +89,22 @@ asked_besides act (Lost found) lead = Some Retire
 asked_besides act Resigned lead = Some Retire
 asked_besides act _ lead = None
 
--- who acts in a line
-abbrev pub actor_or : Option Actor → Actor
-actor_or None = Driver 0
-actor_or (Some actor) = actor
-
 -- what the driver's cluster was asked and replied, the latest first
 abbrev pub past_at : List (List Entry) → ℕ → List Entry
 past_at journals driver = get_or journals driver []
 
--- the entry of a request: its reply is the first that applies over the entries before it
-abbrev pub served : List (List Entry) → ℕ → Actor → ℕ → Request → Entry
-served journals driver actor number request = entry_of actor number request (first_reply (part_after (past_at journals driver)) request)
+-- the entry of a request to a driver's cluster: its reply is the first that applies over the entries before it
+abbrev pub served : List (List Entry) → ℕ → ℕ → Request → Entry
+served journals driver number request = entry_of (asker driver request) number request (first_reply (part_after (past_at journals driver)) request)
 
 -- the journals with that entry
-abbrev pub with_served : List (List Entry) → ℕ → Actor → ℕ → Request → List (List Entry)
-with_served journals driver actor number request = slice_set journals driver (served journals driver actor number request ∷ past_at journals driver)
+abbrev pub with_served : List (List Entry) → ℕ → ℕ → Request → List (List Entry)
+with_served journals driver number request = slice_set journals driver (served journals driver number request ∷ past_at journals driver)
 
 -- the journals with the entry of a request, where there is one
-abbrev pub with_besides : List (List Entry) → ℕ → Actor → ℕ → Option Request → List (List Entry)
-with_besides journals driver actor number None = journals
-with_besides journals driver actor number (Some request) = with_served journals driver actor number request
+abbrev pub with_besides : List (List Entry) → ℕ → ℕ → Option Request → List (List Entry)
+with_besides journals driver number None = journals
+with_besides journals driver number (Some request) = with_served journals driver number request
 
 -- an answer and the state after it
 pub record Turned : Type 0 where
@@ -157,23 +120,28 @@ request_of _ = None
 abbrev pub lead_at : State → ℕ → Option BegunLead
 lead_at state driver = get_or state.leads driver None
 
--- a line of the oracle
-abbrev pub oracle_line : State → Line → Turned
-oracle_line state line = record {
-  said = ByOracle (act_step state.oracle line.act).reply;
+-- what an answer of the oracle to a line of this driver leaves: the oracle after it, how far the driver's lead is, and what its
+-- cluster is asked besides
+abbrev pub oracle_turn : State → Line → ℕ → Stepped → Turned
+oracle_turn state line driver stepped = record {
+  said = ByOracle stepped.reply;
   after = record {
-    oracle = (act_step state.oracle line.act).after;
-    leads = slice_set state.leads (driver_of line.act) (lead_after line.act (act_step state.oracle line.act).reply (lead_at state (driver_of line.act)));
-    journals = with_besides state.journals (driver_of line.act) (actor_or line.actor) line.number (asked_besides line.act (act_step state.oracle line.act).reply (lead_at state (driver_of line.act)));
+    oracle = stepped.after;
+    leads = slice_set state.leads driver (lead_after line.act stepped.reply (lead_at state driver));
+    journals = with_besides state.journals driver line.number (asked_besides line.act stepped.reply (lead_at state driver));
   };
 }
+
+-- a line of the oracle
+abbrev pub oracle_line : State → Line → Turned
+oracle_line state line = oracle_turn state line (driver_in line.actor) (act_step state.oracle line.act)
 
 -- a line that asks something of a cluster, or one of the oracle
 abbrev pub line_by : State → Line → Option (ℕ × Request) → Turned
 line_by state line None = oracle_line state line
 line_by state line (Some asked) = record {
-  said = ByCluster (served state.journals asked.0 (actor_or line.actor) line.number asked.1).reply;
-  after = record state { journals = with_served state.journals asked.0 (actor_or line.actor) line.number asked.1 };
+  said = ByCluster (served state.journals asked.0 line.number asked.1).reply;
+  after = record state { journals = with_served state.journals asked.0 line.number asked.1 };
 }
 
 -- what a line does
@@ -190,16 +158,6 @@ abbrev pub state_after : State → List Line → State
 state_after state [] = state
 state_after state (line ∷ lines) = state_after (line_step state line).after lines
 
--- the cell of a `cell` line; of any other, the empty cell
-abbrev pub named_cell : Act → CellWord
-named_cell (Cell saved term) = cell saved term
-named_cell _ = cell 0 0
-
--- the opening cell of a script: that of its first line
-abbrev pub opening_cell : List Line → CellWord
-opening_cell [] = cell 0 0
-opening_cell (line ∷ lines) = named_cell line.act
-
 -- the oracle's setup for a script
 abbrev pub setup_of : Script → Setup
 setup_of script = record { drivers = script.drivers; clients = script.clients; cell = opening_cell script.lines }
@@ -211,17 +169,3 @@ start script = record { oracle = opened (setup_of script); leads = replicate (sc
 -- the answers to a script
 abbrev pub answers_of : Script → List Answer
 answers_of script = answers_from (start script) script.lines
-
--- the text of an answer
-abbrev pub said_text : Said → List ℕ
-said_text (ByOracle reply) = reply_text reply
-said_text (ByCluster reply) = told_text reply
-
--- a line's number, its answer, a line feed
-abbrev pub answer_text : Answer → List ℕ
-answer_text answer = decimal answer.line.number ++ codes " " ++ said_text answer.said ++ codes "\n"
-
--- the lines of all answers
-abbrev pub answers_text : List Answer → List ℕ
-answers_text [] = []
-answers_text (answer ∷ answers) = answer_text answer ++ answers_text answers

@@ -1,8 +1,9 @@
 ghost use Rattle.std.specs.Prelude.{◌≡◌};
-ghost use Rattle.pd_cluster.specs.Replay.{asked_besides, driver_of, lead_after, moment_of, published_term, with_term};
+ghost use Rattle.pd_cluster.specs.Answers.{driver_in};
+ghost use Rattle.pd_cluster.specs.Replay.{asked_besides, lead_after, moment_of, published_term, with_term};
 
 use pd_script::Act;
-use pd_types::Request;
+use pd_types::{Actor, Request};
 use tso_core::Reply;
 
 /// How far a driver's lead by single steps is: the moment of its `read` line, in milliseconds since
@@ -13,16 +14,13 @@ pub struct BegunLead {
     pub term: u64,
 }
 
-/// The driver that acts in a line, 0 where none does.
-pub fn driver_of(act: &Act) -> u8
-    ensures value { result ≡ driver_of act.now }
+/// The driver that acts in a line, by the line's actor; 0 where none does.
+pub fn driver_in(actor: Option<Actor>) -> u8
+    ensures value { result ≡ driver_in actor }
 {
-    match act {
-        Act::Lead { driver, .. } | Act::Tick { driver, .. } | Act::Resign { driver } => *driver,
-        Act::Read { driver, .. } | Act::Campaign { driver } | Act::Save { driver } => *driver,
-        Act::Raise { driver } | Act::Publish { driver } | Act::Probe { driver, .. } => *driver,
-        Act::Cell { .. } | Act::Take { .. } | Act::Tell { .. } | Act::Hear { .. } => 0,
-        Act::Look { .. } | Act::Arm { .. } | Act::Draw { .. } | Act::Ask { .. } => 0,
+    match actor {
+        Some(Actor::Driver(driver)) => driver,
+        Some(Actor::Client(_)) | Some(Actor::Store(_)) | None => 0,
     }
 }
 

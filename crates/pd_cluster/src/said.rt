@@ -1,5 +1,5 @@
 ghost use Rattle.std.specs.Prelude.{◌≡◌, Some};
-ghost use Rattle.pd_cluster.specs.Replay.{said_text};
+ghost use Rattle.pd_cluster.specs.Answers.{said_text};
 
 use std::fmt;
 

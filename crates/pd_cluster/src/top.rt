@@ -2,10 +2,11 @@
 ghost use Rattle.std.specs.Prelude.{◌≡◌, ◌≢◌, ◌≤◌, IfOk, IfNone, IfSome, IsErrOf, length, map, string_bytes};
 ghost use Rattle.std.specs.Io.KnownBytes.{Keeps};
 ghost use Rattle.pd_cluster.specs.Command.{command_of};
-ghost use Rattle.pd_cluster.specs.Outcome.{Ends, IsHeadline, Leaves, Outcome, limit_bytes, limited_text, refusal_outcome, script_outcome, tso_outcome, usage};
+ghost use Rattle.pd_cluster.specs.Outcome.{Asks, Ends, IsHeadline, IsUnread, Leaves, Outcome, limit_bytes, limited_text, refusal_outcome, script_outcome, tso_outcome, usage};
 ghost use Rattle.pd_cluster.specs.Response.{Gives, HasEndCause, HasFailureCause, IsFinal, Responds};
 ghost use Rattle.pd_cluster.specs.declared.command.Command.TheVariants.{Replay};
 ghost use Rattle.pd_cluster.specs.declared.status.Status.TheVariants.{ReadFault, WriteFault};
+ghost use Rattle.pd_lines.specs.Input.{TakesFew};
 ghost use Rattle.pd_script.specs.Scripts.{script_of};
 ghost use Rattle.pd_script.specs.declared.refusal.ScriptRefusal.TheVariants.{Fault, Limit as PastLimit};
 ghost use Rattle.pd_script.specs.declared.script.Mode.TheVariants.{Replay as ByLine};
@@ -22,6 +23,8 @@ use std::alloc::{AllocError, Global};
 
 /// How many bytes a script has at most.
 pub const MAX_BYTES: usize = 16777216;
+
+const _: () = prove!(MAX_BYTES == 16_777_216);
 
 /// Why there is nothing to be written.
 #[derive(Clone, Copy, Debug, PartialEq, Eq)]
@@ -126,6 +129,8 @@ fn script_response(alloc: Global, text: &[u8]) -> Result<Response, NoMemory>
 // The response to what the source gives, as a script.
 fn replay_response<S: Source>(alloc: Global, source: &mut S) -> Result<Response, Failure>
     ensures answered { IfOk result (Responds Replay (S.left source.old) (S.left source.new)) }
+    ensures unread { IsErrOf result Failure.ReadFault → TakesFew (S.left source.old) (S.left source.new) 16777216 }
+    ensures asked { Asks Replay (S.left source.old) (S.left source.new) }
     ensures cause { HasFailureCause (S.faults source.old) (S.faults source.new) result }
 {
     match read_all(alloc, source, MAX_BYTES) {
@@ -139,6 +144,8 @@ fn replay_response<S: Source>(alloc: Global, source: &mut S) -> Result<Response,
 // What is to be written, for a command and what the source gives.
 fn respond<S: Source>(alloc: Global, command: Command, source: &mut S) -> Result<Response, Failure>
     ensures answered { IfOk result (Responds command (S.left source.old) (S.left source.new)) }
+    ensures unread { IsErrOf result Failure.ReadFault → IsUnread command (S.left source.old) (S.left source.new) }
+    ensures asked { Asks command (S.left source.old) (S.left source.new) }
     ensures cause { HasFailureCause (S.faults source.old) (S.faults source.new) result }
 {
     match command {
@@ -179,8 +186,11 @@ pub fn pd_top<S: Source, K: Sink>(
     // A command: the outcome of the text that was read, whose answers are a safe history.
     ensures answer { IfSome (command_of (map string_bytes words.now)) (λ command. Ends command result (S.left source.old) (S.left source.new) (K.held sink.old) (K.held sink.new)) }
 
-    // The headline: no timestamp is granted twice in what was printed.
-    ensures history { IfSome (command_of (map string_bytes words.now)) (λ command. IsHeadline command result (K.held sink.old) (K.held sink.new)) }
+    // The headline: what was printed are answers to the lines that were read, and grants no timestamp twice.
+    ensures history { IfSome (command_of (map string_bytes words.now)) (λ command. IsHeadline command result (S.left source.old) (S.left source.new) (K.held sink.old) (K.held sink.new)) }
+
+    // What is asked of the source, however it ends.
+    ensures asked { IfSome (command_of (map string_bytes words.now)) (λ command. Asks command (S.left source.old) (S.left source.new)) }
 
     // A fault is answered only where its count rose.
     ensures read { HasEndCause ReadFault (S.faults source.old) (S.faults source.new) result }

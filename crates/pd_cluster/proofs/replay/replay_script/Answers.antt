@@ -1,10 +1,11 @@
 use Rattle.std.specs.Prelude.{string_bytes}
-use Rattle.pd_cluster.specs.Replay.{State, answers_from, answers_of, answers_text, opening_cell, start}
+use Rattle.pd_cluster.specs.Answers.{answers_text, opening_cell}
+use Rattle.pd_cluster.specs.Replay.{State, answers_from, answers_of, start}
 use Rattle.std.proofs.Common.{◌≡◌, ◌++◌, ℕ, List, ap, sym, subst, ◌∙◌}
 use Rattle.std.proofs.lemmas.List.Elements.{All-head, All-rest, All-same}
 use Rattle.std.specs.Vec.Iter.{into_iter_items}
 use Rattle.tso_model.specs.declared.view.Setup.{Setup}
-use Rattle.pd_script.specs.Lawful.{IsLawful}
+use Rattle.pd_script.specs.Lawful.{IsLawful, actor_in}
 use Rattle.pd_script.specs.declared.act.Line.{Line}
 use Rattle.pd_script.specs.declared.script.Mode.TheVariants.{Replay}
 use Rattle.pd_cluster.specs.Clusters.{state_of}
@@ -22,12 +23,18 @@ loop-line-init c =
       setup = ap (λ (s : State). s.oracle.setup) began;
       ready = c.in_ok-replay.ensures.ready;
       lawful = All-same (λ (line : Line). IsLawful c.args.script.drivers c.args.script.clients line.act) _ _ items (all_asked Replay c.args.script c.requires.lawful);
+      actors = All-same (λ (line : Line). line.actor ≡ actor_in line.act) _ _ items c.requires.lawful.actors;
     }
 
 pub append-requires-clause-lawful : goal.append-requires-clause-lawful
 append-requires-clause-lawful c = subst (λ (k : Setup). IsLawful k.drivers k.clients c.in-Some.line.act) (sym c.loop-line.invariant.setup)
     (All-head (λ (line : Line). IsLawful c.args.script.drivers c.args.script.clients line.act) c.in-Some.line (into_iter_items c.next.new.self)
     (All-same (λ (line : Line). IsLawful c.args.script.drivers c.args.script.clients line.act) _ _ (sym c.in-Some.ensures.steps.0) c.loop-line.invariant.lawful))
+
+pub append-requires-clause-actor : goal.append-requires-clause-actor
+append-requires-clause-actor c =
+    All-head (λ (line : Line). line.actor ≡ actor_in line.act) c.in-Some.line (into_iter_items c.next.new.self)
+    (All-same (λ (line : Line). line.actor ≡ actor_in line.act) _ _ (sym c.in-Some.ensures.steps.0) c.loop-line.invariant.actors)
 
 pub loop-line-preserved : goal.loop-line-preserved
 loop-line-preserved c = record {
@@ -36,4 +43,5 @@ loop-line-preserved c = record {
   setup = c.append.ensures.setup ∙ c.loop-line.invariant.setup;
   ready = c.in_ok-append.ensures.ready;
   lawful = All-rest (λ (line : Line). IsLawful c.args.script.drivers c.args.script.clients line.act) _ _ _ c.in-Some.ensures.steps.0 c.loop-line.invariant.lawful;
+  actors = All-rest (λ (line : Line). line.actor ≡ actor_in line.act) _ _ _ c.in-Some.ensures.steps.0 c.loop-line.invariant.actors;
 }

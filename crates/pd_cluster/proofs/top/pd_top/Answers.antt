@@ -8,10 +8,10 @@ returns-in-Ok-respond-clause-answer g c =
     let r = c.in-Ok-respond.ensures.answered in
     rw (← c.of.ensures.value, c.in-Some.is)
     (ends c.in-Some.command _ _ _ _ _ c.write_out-in-Ok-respond.ensures.read
-    (record { text = r.text; outcome = r.outcome; taken = r.taken; lawful = r.lawful; written = c.write_out-in-Ok-respond.ensures.written _ r.gives; history = safe_outcome c.in-Some.command r.text }))
+    (record { text = r.text; outcome = r.outcome; taken = r.taken; lawful = r.lawful; written = c.write_out-in-Ok-respond.ensures.written _ r.gives; safe = safe_outcome c.in-Some.command r.text }))
 
 pub returns-in-Ok-respond-clause-history : goal.returns-in-Ok-respond-clause-history
 returns-in-Ok-respond-clause-history g c =
     let r = c.in-Ok-respond.ensures.answered in
     rw (← c.of.ensures.value, c.in-Some.is)
-    (headline c.in-Some.command r.text r.outcome r.lawful (safe_outcome c.in-Some.command r.text) _ _ _ (c.write_out-in-Ok-respond.ensures.written _ r.gives))
+    (headline c.in-Some.command r.text r.outcome _ _ r.taken r.lawful (safe_outcome c.in-Some.command r.text) _ _ _ c.write_out-in-Ok-respond.ensures.read (c.write_out-in-Ok-respond.ensures.written _ r.gives))

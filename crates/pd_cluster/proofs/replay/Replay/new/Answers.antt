@@ -1,6 +1,6 @@
-use Rattle.std.proofs.Common.{◌≡◌, ◌+◌, [], replicate, ap, ◌∙◌, arith}
+use Rattle.std.proofs.Common.{◌≡◌, ◌+◌, [], replicate, ap, sym, ◌∙◌, arith}
 use Rattle.std.specs.Prelude.{None}
-use Rattle.pd_cluster.proofs.Serving.{alive_more, count_more, journals_more, leads_more}
+use Rattle.pd_cluster.proofs.Serving.{alive_more, count_more, numbered_more, journals_more, leads_more}
 use Rattle.pd_cluster.proofs.replay.Replay.new.Goals as goal
 
 pub loop-driver-preserved : goal.loop-driver-preserved
@@ -8,6 +8,7 @@ loop-driver-preserved c = rw (c.in_ok-push.ensures.items, c.in_ok-push-2.ensures
   leads = leads_more c.loop-driver.leads.items c.loop-driver.driver c.loop-driver.invariant.leads;
   journals = journals_more c.loop-driver.clusters.items c.loop-driver.driver c.loop-driver.driver c.new-in-loop-driver.result c.new-in-loop-driver.ensures.value c.loop-driver.invariant.journals;
   alive = alive_more c.loop-driver.clusters.items c.loop-driver.driver c.loop-driver.driver c.new-in-loop-driver.result c.new-in-loop-driver.ensures.value c.loop-driver.invariant.alive;
+  numbered = numbered_more c.loop-driver.clusters.items c.loop-driver.driver c.loop-driver.driver c.new-in-loop-driver.result c.new-in-loop-driver.ensures.value (sym c.loop-driver.invariant.len) c.loop-driver.invariant.numbered;
   len = count_more c.loop-driver.clusters.items c.loop-driver.driver c.loop-driver.driver c.new-in-loop-driver.result c.new-in-loop-driver.ensures.value c.loop-driver.invariant.len;
 })
 

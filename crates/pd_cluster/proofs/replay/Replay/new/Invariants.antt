@@ -1,6 +1,6 @@
 use Rattle.std.proofs.Common.{◌≡◌, [], length, replicate}
 use Rattle.std.specs.Prelude.{None}
-use Rattle.pd_cluster.specs.Clusters.{AreAlive, journals_of}
+use Rattle.pd_cluster.specs.Clusters.{AreAlive, AreNumbered, journals_of}
 use Rattle.pd_cluster.proofs.replay.Replay.new.Given as goal
 
 abbrev pub invariant-loop-driver : goal.invariant-loop-driver
@@ -8,5 +8,6 @@ invariant-loop-driver l = record {
   leads : l.leads.items ≡ replicate l.driver None;
   journals : journals_of l.clusters.items ≡ replicate l.driver [];
   alive : AreAlive l.clusters.items;
+  numbered : AreNumbered l.clusters.items;
   len : length l.clusters.items ≡ l.driver;
 }
