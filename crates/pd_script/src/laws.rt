@@ -1,9 +1,13 @@
 // What the definitions give, by themselves.
-ghost use Rattle.std.specs.Prelude.{◌≡◌, ◌-◌, ◌^◌, ℕ, List, [], nat_eq, false};
+ghost use Rattle.std.specs.Prelude.{◌≡◌, ◌⊎◌, ◌-◌, ◌^◌, ℕ, List, [], nat_eq, false};
 ghost use Rattle.std.specs.List.{list_any, All};
+ghost use Rattle.pd_types.specs.declared.oracle.Actor.TheVariants.{Driver, Store};
+ghost use Rattle.pd_types.specs.declared.request.Request.{Request};
+ghost use Rattle.pd_types.specs.declared.request.Request.TheVariants.{Alive};
 ghost use Rattle.pd_script.specs.Forms.{items_of};
 ghost use Rattle.pd_script.specs.Joining.{joined_items, joined_lines, spaced};
 ghost use Rattle.pd_script.specs.Places.{least, most};
+ghost use Rattle.pd_script.specs.Scripts.{asker};
 ghost use Rattle.pd_script.specs.Words.{pieces_from, raw_lines};
 ghost use Rattle.pd_script.specs.declared.place.Place.TheVariants.{Client, Count, Driver, Id, Moment, Saved, Seconds, Term, Version};
 
@@ -35,4 +39,10 @@ pub fn each_place_has_its_range()
     ensures seconds { most Seconds ≡ 2 ^ 32 - 1 }
     ensures rest { (least Moment ≡ 0) × (least Saved ≡ 0) × (least Term ≡ 0) }
     ensures others { (least Version ≡ 0) × (least Seconds ≡ 0) }
+{}
+
+/// Who asks a request is a store or the driver that is asked: never a client, and no other driver.
+pub fn stores_and_the_driver_ask()
+    ensures stores { (driver : ℕ) (request : Request) → (asker driver request ≡ Driver driver) ⊎ ((store : ℕ) × (asker driver request ≡ Store store)) }
+    ensures spoken { (driver store moment : ℕ) → asker driver (Alive store moment) ≡ Store store }
 {}
