@@ -1,4 +1,10 @@
 pub mod Keys
 pub mod Order
+pub mod Rows
 pub mod Stand
 pub mod Gaps
+pub mod Runs
+pub mod Spots
+pub mod Puts
+pub mod Numbers
+pub mod Shift

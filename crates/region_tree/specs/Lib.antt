@@ -2,3 +2,5 @@ pub mod Ranges
 pub mod Standing
 pub mod Stale
 pub mod Cover
+pub mod Places
+pub mod Moves

@@ -2,7 +2,9 @@
 #![tactic(auto)]
 
 mod cover;
+mod exchange;
 mod fault;
+mod held;
 mod laws;
 mod places;
 mod range;
@@ -13,4 +15,4 @@ mod tests;
 
 pub use fault::RegionFault;
 pub use laws::{overlapping_ranges_share_a_key, what_stands_is_the_table};
-pub use table::{MOST_REGIONS, Regions, Removed};
+pub use table::{Displaced, MOST_REGIONS, Regions, Removed};

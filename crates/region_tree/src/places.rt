@@ -1,111 +1,134 @@
-ghost use Rattle.std.specs.Prelude.{◌≡◌, ◌<◌, ◌≤◌, ℕ, List, true, false, not, ◌&&◌, nat_eq, filter, length, slice_index_or, vec_len, All, IfOk};
+ghost use Rattle.std.specs.Prelude.{◌≡◌, ◌+◌, ◌-◌, ◌<◌, ◌≤◌, ℕ, List, [], ◌++◌, true, false, not, ◌&&◌, nat_eq, filter, map, length, slice_index_or, slice_range, vec_len, All, IfOk, IsTrue, Some, None, if◌then◌else◌};
+ghost use Rattle.std.specs.List.{list_any, remove_range};
+ghost use Rattle.std.specs.FinMap as fin;
 ghost use Rattle.std.specs.Vec.{vec_capacity};
 ghost use Rattle.pd_types.specs.BeatCheck.{is_below};
 ghost use Rattle.pd_types.specs.declared.region.RegionBeat.{RegionBeat};
-ghost use Rattle.region_tree.specs.Ranges.{HasRange, overlaps};
+ghost use Rattle.region_tree.specs.Ranges.{HasRange, is_before_end, overlaps};
 ghost use Rattle.region_tree.specs.Standing.{AreApart, insert_by_key, stays};
 ghost use Rattle.region_tree.specs.Stale.{ids_of, put_beat, removed_by};
+ghost use Rattle.region_tree.specs.Places.{others, IsPlace, IsIndex, IsRun};
 
-use crate::range::{is_below, overlaps, stays};
-use pd_types::{Duplicate, Ids, NoMemory, RegionBeat};
+use crate::held::Held;
+use crate::range::{is_before_end, is_below};
+use id_map::IdMap;
+use pd_types::{Bytes, Ids, NoMemory, RegionBeat};
 use std::alloc::Global;
 
-// How many regions begin below a key.
-fn lesser(held: &[RegionBeat], key: &[u8]) -> usize
+/// How many regions begin below a key.
+pub fn lesser(held: &[Held], key: &[u8]) -> usize
     requires apart { AreApart held.now }
     requires ranges { All HasRange held.now }
     ensures bound { result ≤ length held.now }
     ensures before { (k : ℕ) (d : RegionBeat) → k < result → is_below (slice_index_or held.now k d).region.start key.now ≡ true }
     ensures after { (k : ℕ) (d : RegionBeat) → result ≤ k → k < length held.now → is_below (slice_index_or held.now k d).region.start key.now ≡ false }
 {
-    held.partition_point(|one| is_below(one.region.start.as_slice(), key))
+    held.partition_point(|one| is_below(one.beat().region.start.as_slice(), key))
 }
 
-// Puts a heartbeat in its place, where all stay beside it and there is room for it.
-fn place(held: &mut Vec<RegionBeat>, beat: RegionBeat)
-    requires apart { AreApart held.old.items }
-    requires ranges { All HasRange held.old.items }
-    requires beside { All (λ one. stays beat one ≡ true) held.old.items }
-    requires range { HasRange beat }
-    requires room { vec_len held.old < vec_capacity held.old }
-    ensures value { held.new.items ≡ insert_by_key beat held.old.items }
-    ensures apart { AreApart held.new.items }
-    ensures ranges { All HasRange held.new.items }
+/// How many regions begin at a key or below it.
+pub fn upto_key(held: &[Held], key: &[u8]) -> usize
+    requires apart { AreApart held.now }
+    requires ranges { All HasRange held.now }
+    ensures bound { result ≤ length held.now }
+    ensures before { (k : ℕ) (d : RegionBeat) → k < result → is_below key.now (slice_index_or held.now k d).region.start ≡ false }
+    ensures after { (k : ℕ) (d : RegionBeat) → result ≤ k → k < length held.now → is_below key.now (slice_index_or held.now k d).region.start ≡ true }
 {
-    let at = lesser(held, beat.region.start.as_slice());
-    let Ok(()) = held.insert(at, beat) else {
-        unreachable!()
-    };
+    held.partition_point(|one| !is_below(key, one.beat().region.start.as_slice()))
 }
 
-// Takes out what the heartbeat displaces.
-fn take_out(held: &mut Vec<RegionBeat>, beat: &RegionBeat)
-    requires apart { AreApart held.old.items }
-    requires ranges { All HasRange held.old.items }
-    ensures value { held.new.items ≡ filter (stays beat.now) held.old.items }
-    ensures apart { AreApart held.new.items }
-    ensures ranges { All HasRange held.new.items }
-    ensures beside { All (λ one. stays beat.now one ≡ true) held.new.items }
-    ensures capacity { vec_capacity held.new ≡ vec_capacity held.old }
-    ensures shorter { vec_len held.new ≤ vec_len held.old }
+// How many regions end at a key or below it.
+fn ended(held: &[Held], key: &[u8]) -> usize
+    requires apart { AreApart held.now }
+    requires ranges { All HasRange held.now }
+    ensures bound { result ≤ length held.now }
+    ensures before { (k : ℕ) (d : RegionBeat) → k < result → is_before_end key.now (slice_index_or held.now k d).region.end ≡ false }
+    ensures after { (k : ℕ) (d : RegionBeat) → result ≤ k → k < length held.now → is_before_end key.now (slice_index_or held.now k d).region.end ≡ true }
 {
-    held.retain(|one| stays(beat, one));
+    held.partition_point(|one| !is_before_end(key, one.beat().region.end.as_slice()))
 }
 
-/// Puts a heartbeat in place of what it displaces, where there is room for one more.
-pub fn replace(held: &mut Vec<RegionBeat>, beat: RegionBeat)
-    requires apart { AreApart held.old.items }
-    requires ranges { All HasRange held.old.items }
-    requires range { HasRange beat }
-    requires room { vec_len held.old < vec_capacity held.old }
-    ensures value { held.new.items ≡ put_beat beat held.old.items }
-    ensures apart { AreApart held.new.items }
-    ensures ranges { All HasRange held.new.items }
+// How many regions begin before an end.
+fn begun(held: &[Held], end: &[u8]) -> usize
+    requires apart { AreApart held.now }
+    requires ranges { All HasRange held.now }
+    ensures bound { result ≤ length held.now }
+    ensures before { (k : ℕ) (d : RegionBeat) → k < result → is_before_end (slice_index_or held.now k d).region.start end.now ≡ true }
+    ensures after { (k : ℕ) (d : RegionBeat) → result ≤ k → k < length held.now → is_before_end (slice_index_or held.now k d).region.start end.now ≡ false }
 {
-    take_out(held, &beat);
-    place(held, beat);
+    held.partition_point(|one| is_before_end(one.beat().region.start.as_slice(), end))
 }
 
-/// How many regions stay beside the heartbeat.
-pub fn staying(held: &[RegionBeat], beat: &RegionBeat) -> usize
-    ensures value { result ≡ length (filter (stays beat.now) held.now) }
-{
-    held.iter().filter(|one| stays(beat, one)).count()
+/// The places from one on and up to another.
+#[derive(Clone, Copy)]
+pub struct Run {
+    pub from: usize,
+    pub upto: usize,
 }
 
-// Whether a heartbeat of another id overlaps the held region.
-fn is_removed(held: &RegionBeat, beat: &RegionBeat) -> bool
-    ensures value { result ≡ (overlaps beat.now held.now && not (nat_eq held.now.region.id beat.now.region.id)) }
+/// The places of the regions that the heartbeat overlaps, which stand in a row.
+pub fn run_of(held: &[Held], beat: &RegionBeat) -> Run
+    requires apart { AreApart held.now }
+    requires ranges { All HasRange held.now }
+    ensures run { IsRun beat.now held.now result.from result.upto }
 {
-    overlaps(beat, held) && held.region.id != beat.region.id
+    let region = &beat.region;
+    let from = ended(held, region.start.as_slice());
+    let upto = begun(held, region.end.as_slice()).max(from);
+    Run { from, upto }
 }
 
-/// The regions of other ids that the heartbeat overlaps, in key order.
-pub fn removed_by(
-    alloc: Global,
-    held: &[RegionBeat],
-    beat: &RegionBeat,
-) -> Result<Vec<RegionBeat>, NoMemory>
-    ensures value { IfOk result (λ removed. removed.items ≡ removed_by beat.now held.now) }
+/// The place of the region of an id.
+pub fn place_of(held: &[Held], index: &IdMap<Bytes>, id: u64) -> Option<usize>
+    requires apart { AreApart held.now }
+    requires ranges { All HasRange held.now }
+    requires index { IsIndex index.now held.now }
+    ensures place { IsPlace held.now id result }
 {
-    let mut removed = Vec::new(alloc);
-    for one in held {
-        if is_removed(one, beat) {
-            removed.push(one.copy(alloc)?)?;
-        }
+    match index.get(id) {
+        Some(start) => Some(lesser(held, start.as_slice())),
+        None => None,
     }
-    Ok(removed)
 }
 
-/// The ids of the regions of other ids that the heartbeat overlaps, in key order.
-pub fn removed_ids(alloc: Global, held: &[RegionBeat], beat: &RegionBeat) -> Result<Ids, NoMemory>
-    ensures value { IfOk result (λ ids. ids ≡ ids_of (removed_by beat.now held.now)) }
+// How many of these regions have another id.
+fn others(held: &[Held], id: u64) -> usize
+    ensures value { result ≡ length (others id held.now) }
+{
+    held.iter().filter(|one| one.beat().region.id != id).count()
+}
+
+/// How many regions of other ids the heartbeat overlaps.
+pub fn removed_count(held: &[Held], run: Run, beat: &RegionBeat) -> usize
+    requires run { IsRun beat.now held.now run.from run.upto }
+    ensures value { result ≡ length (removed_by beat.now held.now) }
+{
+    others(&held[run.from..run.upto], beat.region.id)
+}
+
+// The ids of those of these regions that have another id, in their order.
+fn other_ids(alloc: Global, held: &[Held], id: u64) -> Result<Ids, NoMemory>
+    ensures value { IfOk result (λ ids. ids ≡ ids_of (others id held.now)) }
 {
     let mut ids = Ids::new(alloc);
     for one in held {
-        if is_removed(one, beat) {
-            ids.push(one.region.id)?;
+        let other = one.beat().region.id;
+        if other != id {
+            ids.push(other)?;
         }
     }
     Ok(ids)
+}
+
+/// The ids of the regions of other ids that the heartbeat overlaps, in key order.
+pub fn removed_ids(
+    alloc: Global,
+    held: &[Held],
+    run: Run,
+    beat: &RegionBeat,
+) -> Result<Ids, NoMemory>
+    requires run { IsRun beat.now held.now run.from run.upto }
+    ensures value { IfOk result (λ ids. ids ≡ ids_of (removed_by beat.now held.now)) }
+{
+    other_ids(alloc, &held[run.from..run.upto], beat.region.id)
 }

@@ -1,0 +1,16 @@
+use Rattle.std.proofs.Common.{rules, of_calls, arith, not}
+use Rattle.std.proofs.lemmas.Fn.{always_returns_same}
+use Rattle.pd_types.specs.BeatCheck.{is_below}
+use Rattle.region_tree.proofs.Keys.{not_true, not_false}
+use Rattle.region_tree.proofs.Runs.{upto_parted}
+use Rattle.region_tree.proofs.places.upto_key.Goals as goal
+
+pub returns-clause-before : goal.returns-clause-before
+returns-clause-before c k d low =
+    let point = c.partition_point.ensures.partitioned (λ one. not (is_below c.args.key.now one.region.start)) (always_returns_same _ _ _ (λ a r f k. search (rules, of_calls))) (upto_parted c.args.key.now c.args.held.now c.requires.apart c.requires.ranges) in
+    not_true _ (point.0 k d (omega arith) low)
+
+pub returns-clause-after : goal.returns-clause-after
+returns-clause-after c k d high low =
+    let point = c.partition_point.ensures.partitioned (λ one. not (is_below c.args.key.now one.region.start)) (always_returns_same _ _ _ (λ a r f k. search (rules, of_calls))) (upto_parted c.args.key.now c.args.held.now c.requires.apart c.requires.ranges) in
+    not_false _ (point.1 k d high low)
