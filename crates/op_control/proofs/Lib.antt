@@ -5,3 +5,5 @@ pub mod ListLemmas
 pub mod TableLemmas
 pub mod LimitLemmas
 pub mod SendLemmas
+pub mod ToldLemmas
+pub mod IdLemmas

@@ -26,7 +26,7 @@ all-three true false c x y z u e = absurd (false≢true (ap is_ok e))
 all-three true true false x y z u e = absurd (false≢true (ap is_ok e))
 all-three true true true x y z u e = record { first = refl; second = refl; third = refl }
 
-let-through : (step : Step) (beat : RegionBeat) (stores : List StoreEntry) (now : ℕ) (u : Unit {0}) → gate_of step beat stores now ≡ Ok u → IsSafe step beat stores now
+pub let-through : (step : Step) (beat : RegionBeat) (stores : List StoreEntry) (now : ℕ) (u : Unit {0}) → gate_of step beat stores now ≡ Ok u → IsSafe step beat stores now
 let-through step beat stores now u e =
     let tests = all-three (has_majority beat stores now) (has_majority (after step beat) stores now) (is_right step beat stores now) _ _ _ u e in
     record {

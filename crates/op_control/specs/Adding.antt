@@ -1,8 +1,9 @@
 -- When an operator is added, and what adding it leaves (PD, the operator controller: `AddOperator`).
-use Rattle.std.specs.Prelude.{◌≡◌, ℕ, nat_le, ◌&&◌, ◌==◌, not, Bool, List, length, if◌then◌else◌, Option, Some, None, ⊤}
-use Rattle.std.specs.FinMap as map
+use Rattle.std.specs.Prelude.{◌≡◌, ℕ, nat_le, ◌&&◌, ◌==◌, not, Bool, List, length, map, if◌then◌else◌, Option, Some, None, ⊤}
+use Rattle.std.specs.FinMap as finmap
 use Rattle.pd_types.specs.declared.region.Epoch.{Epoch}
 use Rattle.pd_types.specs.declared.region.RegionBeat.{RegionBeat}
+use Rattle.op_step.specs.Wishes.{step_with}
 use Rattle.store_limit.specs.declared.limits.Limited.{Limited}
 use Rattle.store_limit.specs.Limits.{StoreLimits}
 use Rattle.op_control.specs.declared.operator.NewOp.{NewOp}
@@ -41,6 +42,10 @@ refusal_of table op (Some beat) limits now =
     if not (same_epoch op.epoch beat.region.epoch) then Some (faults.EpochMoved beat.region.epoch)
     else or_next (priority_refusal (active_at table op.region) op) (room_refusal (first_refused op.steps limits now) (active_at table op.region) (length table.busy))
 
+-- the operator with this id in the place of its new peer's
+abbrev pub with_new_id : NewOp → ℕ → NewOp
+with_new_id op id = record { region = op.region; epoch = op.epoch; steps = map (step_with id) op.steps; kind = op.kind; priority = op.priority }
+
 -- the operator as it is created
 abbrev pub created : NewOp → ℕ → Operator
 created op now = record { region = op.region; epoch = op.epoch; kind = op.kind; priority = op.priority; steps = op.steps; passed = 0; state = Created; created = now; started = 0 }
@@ -53,7 +58,7 @@ busy_with (Some op) region busy = busy
 -- the operators with a new one, in place of the region's
 abbrev pub added : Table → NewOp → ℕ → Table
 added table op now = record {
-  last = map.insert table.last op.region (created op now);
+  last = finmap.insert table.last op.region (created op now);
   busy = busy_with (active_at table op.region) op.region table.busy;
 }
 

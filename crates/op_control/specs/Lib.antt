@@ -4,5 +4,6 @@ pub mod Charging
 pub mod Counting
 pub mod Life
 pub mod Table
+pub mod Told
 pub mod Turn
 pub mod Written

@@ -1,5 +1,5 @@
 -- What a heartbeat of its region makes of an operator (PD documentation, "Scheduling": operators and their steps).
-use Rattle.std.specs.Prelude.{ℕ, ◌+◌, ◌-◌, nat_lt, min, Bool, true, false, List, [], ◌∷◌, take, drop, if◌then◌else◌, Option, Some, None, Result, Ok, Err}
+use Rattle.std.specs.Prelude.{ℕ, ◌+◌, ◌-◌, nat_lt, Bool, true, false, List, [], ◌∷◌, take, drop, if◌then◌else◌, Option, Some, None, Result, Ok, Err}
 use Rattle.pd_types.specs.declared.region.RegionBeat.{RegionBeat}
 use Rattle.pd_types.specs.declared.step.Step.{Step}
 use Rattle.store_table.specs.declared.entry.StoreEntry.{StoreEntry}
@@ -7,7 +7,7 @@ use Rattle.op_step.specs.declared.safety.Held.{Held}
 use Rattle.op_step.specs.After.{conf_change}
 use Rattle.op_step.specs.Finished.{is_finished}
 use Rattle.op_step.specs.Safe.{gate_of}
-use Rattle.op_control.specs.declared.operator.TheConstants.{EXPIRED_MS, TIMEOUT_MS, LAST_PLACE}
+use Rattle.op_control.specs.declared.operator.TheConstants.{EXPIRED_MS, TIMEOUT_MS}
 use Rattle.op_control.specs.declared.operator.Operator.{Operator}
 use Rattle.op_control.specs.declared.operator.OpState.{OpState}
 use Rattle.op_control.specs.declared.operator.OpState.TheVariants.{Created, Started, Success, Canceled, Expired, Timeout}
@@ -27,7 +27,7 @@ conf_changes (step ∷ steps) = conf_change step + conf_changes steps
 
 -- how many steps are passed: from the current one on, those that are finished
 abbrev pub passed_by : Operator → RegionBeat → ℕ
-passed_by op beat = min (op.passed + finished_count beat (drop op.passed op.steps)) LAST_PLACE
+passed_by op beat = op.passed + finished_count beat (drop op.passed op.steps)
 
 -- a Created operator is late more than 3 seconds after its creation, a Started one more than 10 minutes after its start
 abbrev pub late_in : OpState → Operator → ℕ → Option OpState

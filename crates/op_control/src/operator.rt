@@ -10,9 +10,6 @@ pub const EXPIRED_MS: u64 = 3_000;
 /// all).
 pub const TIMEOUT_MS: u64 = 600_000;
 
-// The greatest count of passed steps. An operator has fewer steps than 2^32.
-pub const LAST_PLACE: u32 = u32::MAX;
-
 /// An operator to be added: the region, the epoch that its steps were made for, and who asks, by
 /// the kind and by the priority: 1 a scheduler, 2 the checker, 3 pd-ctl.
 #[derive(Debug, Drop)]
@@ -46,7 +43,7 @@ pub struct Operator {
     pub kind: Text,
     pub priority: u8,
     pub steps: Steps,
-    pub passed: u32,
+    pub passed: usize,
     pub state: OpState,
     pub created: u64,
     pub started: u64,

@@ -1,5 +1,5 @@
 // The operators of a term.
-ghost use Rattle.std.specs.Prelude.{◌≡◌, ◌==◌, false, true, ◌↔◌, ◌^◌, ◌<◌, ◌≤◌, [], None, Some, IfErr, IsErr, OnErr, IsOk, OnOk, IsSome, IsTrue, insert, length, option_map, not};
+ghost use Rattle.std.specs.Prelude.{◌≡◌, ◌==◌, false, true, ◌↔◌, ◌^◌, ◌<◌, ◌≤◌, [], None, Some, IfErr, IsErr, OnErr, IsOk, OnOk, IsSome, IsSomeAnd, IsTrue, insert, length, option_map, not};
 ghost use Rattle.std.specs.Option.{option_copied};
 ghost use Rattle.std.specs.FinMap as map;
 ghost use Rattle.op_control.specs.Adding.{added, busy_with, created, priority_refusal, refusal_of, room_refusal, same_epoch, RefusedBy};
@@ -7,6 +7,7 @@ ghost use Rattle.op_control.specs.Changes.{LivesBy, LivesOn, Replaces, SendsSafe
 ghost use Rattle.op_control.specs.Charging.{after_charges, first_refused};
 ghost use Rattle.op_control.specs.Life.{is_active, RegionLeft, Removed};
 ghost use Rattle.op_control.specs.Table.{active_at, active_by, canceled, cancel, dispatch_answer, dispatched, joined, op_at, state_of, without, with_op, IsListed};
+ghost use Rattle.op_control.specs.Told.{Tells};
 ghost use Rattle.op_control.specs.Written.{progressed};
 ghost use Rattle.std.specs.List.{list_any};
 ghost use Rattle.op_control.specs.declared.table.AddFault.TheVariants as faults;
@@ -30,19 +31,19 @@ pub const MOST_OPERATORS: usize = 1024;
 #[derive(Clone, Copy, Debug, PartialEq, Eq, Error)]
 pub enum AddFault {
     /// The region isn't held.
-    #[error("no-region")]
+    #[error("the region isn't held")]
     NoRegion,
     /// The operator was made for another epoch than the held one.
-    #[error("epoch-moved")]
+    #[error("the region has another epoch")]
     EpochMoved { kept: Epoch },
     /// The region's operator has at least this priority.
-    #[error("busy {priority}")]
+    #[error("the region has an operator of priority {priority}")]
     Busy { priority: u8 },
     /// A store's limit refuses one of the steps.
-    #[error("limited available {available} needed {needed}")]
+    #[error("a store limit has {available} of {needed} units")]
     Limited { available: u64, needed: u64 },
     /// 1,024 regions have an operator, and none is replaced.
-    #[error("limit")]
+    #[error("1024 regions have an operator")]
     Limit,
     #[error("out of memory")]
     NoMemory,
@@ -50,7 +51,7 @@ pub enum AddFault {
 
 /// The region has no operator that hasn't ended.
 #[derive(Clone, Copy, Debug, PartialEq, Eq, Error)]
-#[error("absent")]
+#[error("the region has no operator")]
 pub struct Absent;
 
 /// The operators of a term: the last one of each region, and the regions whose operator hasn't
@@ -304,6 +305,7 @@ impl Operators {
         ensures value { self.new ≡ dispatched self.old beat.now stores.now now }
         ensures life { LivesBy self.old self.new beat.now.region.id result }
         ensures safe { SendsSafe result beat.now stores.now now }
+        ensures tells { Tells self.old beat.now stores.now now result }
     {
         let region = beat.region.id;
         let Some(op) = active(&self.last, region) else {
@@ -424,6 +426,7 @@ impl Operators {
     /// The state of the region's last operator in this term.
     pub fn state(&self, region: u64) -> Option<OpState>
         ensures value { result ≡ state_of self.now region }
+        ensures active { IsSomeAnd result (λ state. IsTrue (is_active state)) ↔ IsSome (active_at self.now region) }
     {
         match self.last.get(region) {
             Some(op) => Some(op.state),

@@ -258,16 +258,16 @@ fn an_operator_lives_by_the_table(rt: HostRuntime) -> Result<(), Fail> {
 // is named: each removal is limited too, a region that has an operator of this priority is busy too,
 // and one that has none is one too many.
 const ADDS: &str = "\
-7 0 2 remove > no-region
-7 2 3 remove > epoch-moved
-7 2 2 remove > epoch-moved
-7 1 2 remove > busy 2
-7 1 1 add > busy 2
-7 1 3 remove > limited available 0 needed 60000
-2000 1 3 remove > limited available 0 needed 60000
-2000 1 3 add > limit
+7 0 2 remove > the region isn't held
+7 2 3 remove > the region has another epoch
+7 2 2 remove > the region has another epoch
+7 1 2 remove > the region has an operator of priority 2
+7 1 1 add > the region has an operator of priority 2
+7 1 3 remove > a store limit has 0 of 60000 units
+2000 1 3 remove > a store limit has 0 of 60000 units
+2000 1 3 add > 1024 regions have an operator
 7 1 3 add > added
-7 1 3 add > busy 3
+7 1 3 add > the region has an operator of priority 3
 ";
 
 // 1,024 regions with an operator of priority 2 that has no step.
@@ -345,5 +345,108 @@ fn a_moved_epoch_is_named(rt: HostRuntime) -> Result<(), Fail> {
     let (_, answer) = add(&mut operators, op, Some(&beat), &mut limits);
     let kept = beat.region.epoch;
     assert_eq!(rt; answer, Err(AddFault::EpochMoved { kept }));
+    Ok(())
+}
+
+// A heartbeat of the region 7 with these peers, led by this one.
+fn seen(
+    alloc: Global,
+    conf_ver: u64,
+    leader: u64,
+    list: &[(u64, u64, Role)],
+) -> Result<RegionBeat, NoMemory> {
+    let mut seen = beat(alloc, conf_ver, false)?;
+    let mut peers = Seq::new(alloc);
+    for (id, store, role) in list {
+        peers.push(Peer {
+            id: *id,
+            store: *store,
+            role: *role,
+        })?;
+    }
+    seen.region.peers = peers;
+    seen.leader = leader;
+    Ok(seen)
+}
+
+// The four steps by which the leader on store 1 moves to store 4.
+fn moving(alloc: Global) -> Result<NewOp, AllocError>
+    ensures { IfOk result (λ op. length op.steps ≤ 4) }
+{
+    let steps = vec![in alloc;
+        ADD,
+        Step::PromoteLearner { peer: 20, store: 4 },
+        Step::TransferLeader { peer: 12, store: 2 },
+        Step::RemovePeer { peer: 11, store: 1 },
+    ]?;
+    Ok(NewOp {
+        region: 7,
+        epoch: Epoch {
+            conf_ver: 1,
+            version: 1,
+        },
+        steps: Seq::of(steps),
+        kind: Text::of(String::new(alloc)),
+        priority: 3,
+    })
+}
+
+// The operators after the region 7 was given the four steps at the moment 100000.
+fn given_four(alloc: Global) -> Result<Operators, Fail> {
+    let mut operators = Operators::new(alloc);
+    let mut limits = Limits::new(alloc);
+    for store in 1..5 {
+        limits.know(store, 0)?;
+    }
+    let beat = beat(alloc, 1, false)?;
+    operators.add(moving(alloc)?, Some(&beat), &mut limits, 100_000)?;
+    Ok(operators)
+}
+
+const V: Role = Role::Voter;
+
+// What a heartbeat at the moment 100001 makes of the four steps: the step that is sent.
+fn sent(operators: &mut Operators, alloc: Global, seen: &RegionBeat) -> Result<Option<Step>, Fail> {
+    let stores = stores(alloc, 100_000)?;
+    Ok(match operators.dispatch(seen, &stores, 100_001) {
+        Dispatch::Send(step) => Some(step),
+        _ => None,
+    })
+}
+
+// Two of the four steps are finished by one heartbeat; the last one is sent, and once it is done the
+// operator has succeeded.
+#[test]
+fn four_steps_are_passed_to_the_end(rt: HostRuntime) -> Result<(), Fail> {
+    let alloc = rt.alloc();
+    let mut operators = given_four(alloc)?;
+    let first = seen(alloc, 1, 11, &[(11, 1, V), (12, 2, V), (13, 3, V)])?;
+    assert_eq!(rt; sent(&mut operators, alloc, &first)?, Some(ADD));
+    let all = [(11, 1, V), (12, 2, V), (13, 3, V), (20, 4, V)];
+    let grown = seen(alloc, 3, 11, &all)?;
+    let lead = Step::TransferLeader { peer: 12, store: 2 };
+    assert_eq!(rt; sent(&mut operators, alloc, &grown)?, Some(lead));
+    let moved = seen(alloc, 3, 12, &all)?;
+    let last = Step::RemovePeer { peer: 11, store: 1 };
+    assert_eq!(rt; sent(&mut operators, alloc, &moved)?, Some(last));
+    let done = seen(alloc, 4, 12, &[(12, 2, V), (13, 3, V), (20, 4, V)])?;
+    assert_eq!(rt; sent(&mut operators, alloc, &done)?, None);
+    assert_eq!(rt; operators.state(7), Some(OpState::Success));
+    Ok(())
+}
+
+// One step is passed, which changes conf_ver by one, and conf_ver grew by two.
+#[test]
+fn conf_ver_past_the_passed_steps_cancels(rt: HostRuntime) -> Result<(), Fail> {
+    let alloc = rt.alloc();
+    let mut operators = given_four(alloc)?;
+    let learner = (20, 4, Role::Learner);
+    let peers = [(11, 1, V), (12, 2, V), (13, 3, V), learner];
+    let kept = seen(alloc, 2, 11, &peers)?;
+    let promote = Step::PromoteLearner { peer: 20, store: 4 };
+    assert_eq!(rt; sent(&mut operators, alloc, &kept)?, Some(promote));
+    let grown = seen(alloc, 3, 11, &peers)?;
+    assert_eq!(rt; sent(&mut operators, alloc, &grown)?, None);
+    assert_eq!(rt; operators.state(7), Some(OpState::Canceled));
     Ok(())
 }

@@ -1,8 +1,8 @@
 // What a heartbeat of its region makes of an operator.
-ghost use Rattle.std.specs.Prelude.{◌≡◌, drop, take};
+ghost use Rattle.std.specs.Prelude.{◌≡◌, ◌≤◌, drop, take, length};
 ghost use Rattle.op_control.specs.Turn.{answer_at, answer_of, conf_changes, finished_count, is_astray, late_in, passed_by, sent_by, start_in, started_after, state_after, turned, unless_late, with_left};
 
-use crate::operator::{EXPIRED_MS, LAST_PLACE, OpState, Operator, TIMEOUT_MS};
+use crate::operator::{EXPIRED_MS, OpState, Operator, TIMEOUT_MS};
 use op_step::{Held, conf_change, finished, gate};
 use pd_types::{RegionBeat, Step};
 use store_table::Stores;
@@ -25,13 +25,14 @@ pub enum Dispatch {
 /// What a heartbeat changes of an operator.
 #[derive(Clone, Copy, Debug)]
 pub struct Progress {
-    pub passed: u32,
+    pub passed: usize,
     pub state: OpState,
     pub started: u64,
 }
 
 fn finished_count(steps: &[Step], beat: &RegionBeat) -> usize
-    ensures { result ≡ finished_count beat.now steps.now }
+    ensures value { result ≡ finished_count beat.now steps.now }
+    ensures bound { result ≤ length steps.now }
 {
     let mut count = 0;
     for step in steps {
@@ -54,27 +55,25 @@ fn conf_changes(steps: &[Step]) -> u64
 }
 
 // The steps from a place on.
-fn steps_from(steps: &[Step], place: u32) -> &[Step]
+fn steps_from(steps: &[Step], place: usize) -> &[Step]
     ensures { result.now ≡ drop place steps.now }
 {
-    let place = (place as usize).min(steps.len());
+    let place = place.min(steps.len());
     &steps[place..]
 }
 
 // The steps before a place.
-fn steps_before(steps: &[Step], place: u32) -> &[Step]
+fn steps_before(steps: &[Step], place: usize) -> &[Step]
     ensures { result.now ≡ take place steps.now }
 {
-    let place = (place as usize).min(steps.len());
+    let place = place.min(steps.len());
     &steps[..place]
 }
 
-fn passed_by(op: &Operator, beat: &RegionBeat) -> u32
+fn passed_by(op: &Operator, beat: &RegionBeat) -> usize
     ensures { result ≡ passed_by op.now beat.now }
 {
-    let more = finished_count(steps_from(op.steps.as_slice(), op.passed), beat) as u64;
-    let passed = u64::from(op.passed).saturating_add(more);
-    passed.min(u64::from(LAST_PLACE)) as u32
+    op.passed + finished_count(steps_from(op.steps.as_slice(), op.passed), beat)
 }
 
 fn late(op: &Operator, now: u64) -> Option<OpState>
@@ -108,14 +107,14 @@ fn with_left(
     }
 }
 
-fn is_astray(passed: u32, op: &Operator, beat: &RegionBeat) -> bool
+fn is_astray(passed: usize, op: &Operator, beat: &RegionBeat) -> bool
     ensures { result ≡ is_astray passed op.now beat.now }
 {
     let grown = beat.region.epoch.conf_ver.saturating_sub(op.epoch.conf_ver);
     conf_changes(steps_before(op.steps.as_slice(), passed)) < grown
 }
 
-fn answer_at(passed: u32, op: &Operator, beat: &RegionBeat, stores: &Stores, now: u64) -> Dispatch
+fn answer_at(passed: usize, op: &Operator, beat: &RegionBeat, stores: &Stores, now: u64) -> Dispatch
     ensures { result ≡ answer_at passed op.now beat.now stores.now now }
 {
     if is_astray(passed, op, beat) {

@@ -1,5 +1,5 @@
 -- What a heartbeat says of a region's peers (kvproto, `metapb.Peer` and `pdpb.RegionHeartbeatRequest`).
-use Rattle.std.specs.Prelude.{ℕ, Bool, true, false, ◌&&◌, not, ◌==◌, List, Option, find}
+use Rattle.std.specs.Prelude.{ℕ, Bool, ◌&&◌, not, ◌==◌, List, Option, find}
 use Rattle.std.specs.List.{list_any}
 use Rattle.pd_types.specs.BeatCheck.{has_id as is_id_among, has_store as is_store_among}
 use Rattle.pd_types.specs.declared.region.Peer.{Peer}

@@ -9,6 +9,7 @@ mod safety;
 mod tests;
 mod wishes;
 
+pub use peers::{has_store, is_learner, is_target};
 pub use regions::{after, conf_change, finished};
 pub use safety::{Held, Why, gate};
-pub use wishes::{BuildFault, Wish, build, with_id};
+pub use wishes::{BuildFault, Wish, build, may_lead, next_leader, with_id};

@@ -20,7 +20,7 @@ pub fn is_voter(peer: &Peer) -> bool
 
 /// Whether the peer takes the log and has no vote.
 pub fn is_learner(peer: &Peer) -> bool
-    ensures { result ≡ is_learner peer.now.role }
+    ensures value { result ≡ is_learner peer.now.role }
 {
     match peer.role {
         Role::Learner => true,
@@ -49,7 +49,7 @@ pub fn has_peer(id: u64, store: u64, beat: &RegionBeat) -> bool
 
 /// Whether the region has a peer on the store.
 pub fn has_store(store: u64, beat: &RegionBeat) -> bool
-    ensures { result ≡ has_store store beat.now }
+    ensures value { result ≡ has_store store beat.now }
 {
     for peer in beat.region.peers.as_slice() {
         if peer.store == store {
@@ -116,7 +116,7 @@ pub fn is_live_voter(beat: &RegionBeat, stores: &Stores, now: u64, peer: &Peer) 
 
 /// Whether the peer is on a live store, and neither down nor pending.
 pub fn is_target(beat: &RegionBeat, stores: &Stores, now: u64, peer: &Peer) -> bool
-    ensures { result ≡ is_target beat.now stores.now now peer.now }
+    ensures value { result ≡ is_target beat.now stores.now now peer.now }
 {
     stores.is_live(peer.store, now) && !is_down(beat, peer.id) && !is_pending(beat, peer.id)
 }

@@ -207,6 +207,58 @@ fn a_peer_moves_by_four_steps(rt: HostRuntime) -> Result<(), Fail> {
     Ok(())
 }
 
+// The steps of a wish, each with a semicolon behind it; a new peer has the id 99.
+fn told(alloc: Global, wish: &Wish, beat: &RegionBeat, stores: &Stores) -> Result<String, Fail> {
+    let steps = with_id(build(alloc, wish, beat, stores, 1000)?, 99);
+    let mut text = String::new(alloc);
+    for step in steps.as_slice() {
+        let written = format!(in alloc; "{step}; ")?;
+        text.push_str(written.as_str())?;
+    }
+    Ok(text)
+}
+
+// pd-ctl, `operator add`. The leader hands the lead to the voter on store 2 before it goes; the peer
+// on store 3 is a learner and stays one where it moves.
+#[test]
+fn each_wish_has_its_steps(rt: HostRuntime) -> Result<(), Fail> {
+    let alloc = rt.alloc();
+    let peers = [(11, 1, VOTER), (12, 2, VOTER), (13, 3, LEARNER)];
+    let beat = region(alloc, &peers, &[])?;
+    let stores = table(alloc, &[(1, 1000), (2, 1000), (3, 1000), (4, 1000)])?;
+    let rows = [
+        (
+            Wish::AddPeer { store: 4 },
+            "add-learner peer 99 store 4; promote-learner peer 99 store 4; ",
+        ),
+        (
+            Wish::TransferLeader { store: 2 },
+            "transfer-leader peer 12 store 2; ",
+        ),
+        (
+            Wish::RemovePeer { store: 2 },
+            "remove-peer peer 12 store 2; ",
+        ),
+        (
+            Wish::RemovePeer { store: 1 },
+            "transfer-leader peer 12 store 2; remove-peer peer 11 store 1; ",
+        ),
+        (
+            Wish::MovePeer { from: 2, to: 4 },
+            "add-learner peer 99 store 4; promote-learner peer 99 store 4; remove-peer peer 12 store 2; ",
+        ),
+        (
+            Wish::MovePeer { from: 3, to: 4 },
+            "add-learner peer 99 store 4; remove-peer peer 13 store 3; ",
+        ),
+    ];
+    for (wish, wanted) in rows {
+        let text = told(alloc, &wish, &beat, &stores)?;
+        assert_eq!(rt; text.as_str(), wanted, "of {wish:?}");
+    }
+    Ok(())
+}
+
 // Rows in which two faults apply show their order.
 #[test]
 fn the_first_fault_of_a_wish_is_named(rt: HostRuntime) -> Result<(), Fail> {

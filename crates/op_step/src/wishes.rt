@@ -23,25 +23,25 @@ pub enum Wish {
 #[derive(Clone, Copy, Debug, PartialEq, Eq, Error)]
 pub enum BuildFault {
     /// A store that the wish names isn't known.
-    #[error("unknown-store")]
+    #[error("a store isn't known")]
     UnknownStore,
     /// The store that gets a new peer isn't usable.
-    #[error("not-usable")]
+    #[error("the store isn't usable")]
     NotUsable,
     /// The store that gets a new peer has one of the region.
-    #[error("has-peer")]
+    #[error("the store has a peer of the region")]
     HasPeer,
     /// The store has no peer of the region.
-    #[error("no-peer")]
+    #[error("the store has no peer of the region")]
     NoPeer,
     /// The store has the leader already.
-    #[error("is-leader")]
+    #[error("the store has the leader")]
     IsLeader,
     /// The peer to lead isn't a voter.
-    #[error("not-voter")]
+    #[error("the peer isn't a voter")]
     NotVoter,
     /// The leader must leave and nobody can lead.
-    #[error("no-target")]
+    #[error("nobody else may lead")]
     NoTarget,
     #[error("out of memory")]
     NoMemory,
@@ -53,8 +53,10 @@ fn is_known(store: u64, stores: &Stores) -> bool
     stores.get(store).is_some()
 }
 
-fn may_lead(beat: &RegionBeat, stores: &Stores, now: u64, peer: &Peer) -> bool
-    ensures { result ≡ may_lead beat.now stores.now now peer.now }
+/// Whether the peer may lead in the leader's place: another voter that is on a live store, and
+/// neither down nor pending.
+pub fn may_lead(beat: &RegionBeat, stores: &Stores, now: u64, peer: &Peer) -> bool
+    ensures value { result ≡ may_lead beat.now stores.now now peer.now }
 {
     is_voter(peer) && peer.id != beat.leader && is_target(beat, stores, now, peer)
 }
@@ -69,7 +71,8 @@ fn lesser(best: Option<Peer>, peer: &Peer) -> Option<Peer>
     }
 }
 
-fn next_leader(beat: &RegionBeat, stores: &Stores, now: u64) -> Option<Peer>
+// The one of the least id among those who may lead.
+fn least_leader(beat: &RegionBeat, stores: &Stores, now: u64) -> Option<Peer>
     ensures { result ≡ next_leader beat.now stores.now now }
 {
     let mut best = None;
@@ -79,6 +82,15 @@ fn next_leader(beat: &RegionBeat, stores: &Stores, now: u64) -> Option<Peer>
         }
     }
     best
+}
+
+/// Who leads where the leader leaves: of the peers that may lead the one of the least id; none where
+/// nobody may.
+pub fn next_leader(beat: &RegionBeat, stores: &Stores, now: u64) -> Option<Peer>
+    ensures value { result ≡ next_leader beat.now stores.now now }
+    ensures next { IsNext beat.now stores.now now result }
+{
+    least_leader(beat, stores, now)
 }
 
 impl From<NoMemory> for BuildFault {

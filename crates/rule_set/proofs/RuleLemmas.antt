@@ -1,24 +1,29 @@
 -- The order of rules, and how many there are.
-use Rattle.std.proofs.Common.{refl, ◌≡◌, ℕ, zero, suc, ◌+◌, ◌<◌, ◌≤◌, Bool, true, false, not, List, [], ◌∷◌, ◌++◌, length, get_or, take, drop, ap, sym, ◌∙◌, arith, subst, length-append, ◌⊎◌, inl, inr, ◌&&◌, cond, fold}
-use Rattle.std.proofs.lemmas.Grind.{common_steps, fold-append}
+use Rattle.std.proofs.Common.{refl, ◌≡◌, ℕ, suc, ◌+◌, ◌<◌, ◌≤◌, Bool, true, false, not, List, [], ◌∷◌, ◌++◌, length, get_or, drop, ap, sym, arith, subst, length-append, ◌⊎◌, inl, inr, ◌&&◌, cond}
+use Rattle.std.proofs.lemmas.Grind.{fold-append}
 use Rattle.std.proofs.lemmas.Bool.{cases_Bool, true≢false}
 use Rattle.std.proofs.lemmas.Cmp.{then_total, on_total, nat_list_cmp_total, nat_cmp_total}
 use Rattle.std.proofs.lemmas.List.Filters.{length-filter_both}
 use Rattle.std.specs.Cmp.{IsTotalOrder}
 use Rattle.std.specs.Ordering.{is_gt}
-use Rattle.std.specs.List.{filter, insert, list_any, list_all}
+use Rattle.std.specs.List.{All, AllPairs, filter, insert, list_any}
 use Rattle.std.specs.List.Sorted.{IsPartitionedBy}
 use Rattle.pd_types.specs.declared.rule.Rule.{Rule}
-use Rattle.rule_set.specs.Order.{order_of, comes_before, AreInOrder, placed, without, is_named}
+use Rattle.rule_set.specs.Order.{order_of, comes_before, AreApart, AreInOrder, AreNamedApart, placed, without, is_named}
 use Rattle.rule_set.specs.Changes.{knows, with_rule, set_of}
 use Rattle.rule_set.specs.InForce.{rules_at, holds, hides}
+use Rattle.rule_set.proofs.NameLemmas.{before_apart, apart_flipped}
 use Rattle.rule_set.proofs.Sorted.{filter_front, filter_back, pairs_insert, before_not_after, not_before_after, parted}
 
 pub order_total : IsTotalOrder order_of
 order_total = then_total (on_total (λ (r : Rule). r.group) nat_list_cmp_total) (then_total (on_total (λ (r : Rule). r.index) nat_cmp_total) (on_total (λ (r : Rule). r.id) nat_list_cmp_total))
 
+-- what comes before isn't after
+pub never_after : (rules : List Rule) → AreInOrder rules → AllPairs (λ one later. is_gt (order_of one later) ≡ false) rules
+never_after rules order i j d less low = before_not_after order_of order_total (get_or rules i d) (get_or rules j d) (order i j d less low)
+
 pub rules_parted : (rule : Rule) (rules : List Rule) → AreInOrder rules → IsPartitionedBy (λ one. comes_before one rule) rules
-rules_parted rule rules order = parted order_of order_total rule rules order
+rules_parted rule rules order = parted order_of order_total rule rules (never_after rules order)
 
 -- a rule at its place
 pub placed_at : (rule : Rule) (xs ys : List Rule) (i : ℕ) → xs ≡ ys → ((k : ℕ) (d : Rule) → k < i → comes_before (get_or xs k d) rule ≡ true) → ((k : ℕ) (d : Rule) → i ≤ k → k < length xs → comes_before (get_or xs k d) rule ≡ false) → placed rule ys ≡ insert ys i rule
@@ -27,12 +32,17 @@ placed_at rule xs ys i same before after =
     let back = filter_back (λ one. not (comes_before one rule)) xs i (λ k d low inside. ap not (before k d low)) (λ k d high inside. ap not (after k d high inside)) in
     subst (λ zs. placed rule zs ≡ insert zs i rule) same (rw (front, back) refl)
 
-pub order_at : (rule : Rule) (xs ys : List Rule) (i : ℕ) → xs ≡ ys → i ≤ length xs → AreInOrder ys → ((k : ℕ) (d : Rule) → k < i → comes_before (get_or xs k d) rule ≡ true) → ((k : ℕ) (d : Rule) → i ≤ k → k < length xs → comes_before (get_or xs k d) rule ≡ false) → AreInOrder (insert ys i rule)
-order_at rule xs ys i same within order before after =
-    let R : Rule → Rule → Type 0 = λ one later. is_gt (order_of one later) ≡ false in
+pub order_at : (rule : Rule) (xs ys : List Rule) (i : ℕ) → xs ≡ ys → i ≤ length xs → AreInOrder ys → All (AreApart rule) ys → ((k : ℕ) (d : Rule) → k < i → comes_before (get_or xs k d) rule ≡ true) → ((k : ℕ) (d : Rule) → i ≤ k → k < length xs → comes_before (get_or xs k d) rule ≡ false) → AreInOrder (insert ys i rule)
+order_at rule xs ys i same within order apart before after =
+    let R : Rule → Rule → Type 0 = λ one later. comes_before one later ≡ true in
     let order_xs : AreInOrder xs = subst AreInOrder (sym same) order in
+    let apart_xs : All (AreApart rule) xs = subst (All (AreApart rule)) (sym same) apart in
     subst (λ zs. AreInOrder (insert zs i rule)) same
-    (pairs_insert R xs i rule within order_xs (λ k d low. before_not_after order_of order_total (get_or xs k d) rule (before k d low)) (λ k d high inside. not_before_after order_of order_total (get_or xs k d) rule (after k d high inside)))
+    (pairs_insert R xs i rule within order_xs before (λ k d high inside. before_apart rule (get_or xs k d) (apart_xs k d inside) (not_before_after order_of order_total (get_or xs k d) rule (after k d high inside))))
+
+pub names_at : (rule : Rule) (ys : List Rule) (i : ℕ) → i ≤ length ys → AreNamedApart ys → All (AreApart rule) ys → AreNamedApart (insert ys i rule)
+names_at rule ys i within names apart =
+    pairs_insert AreApart ys i rule within names (λ k d low. apart_flipped rule (get_or ys k d) (apart k d (omega arith))) (λ k d high inside. apart k d inside)
 
 -- how many rules there are with one more in its place
 pub length-placed : (rule : Rule) (rules : List Rule) → length (placed rule rules) ≡ length rules + 1
@@ -57,15 +67,6 @@ fewer_left p (x ∷ xs) some = by (cases_Bool (p x)) (fewer_left p xs)
     by : (p x ≡ true) ⊎ (p x ≡ false) → (list_any p xs ≡ true → length (filter (λ y. not (p y)) xs) < length xs) → length (filter (λ y. not (p y)) (x ∷ xs)) < suc (length xs)
     by (inl goes) rest = rw goes (let least = length-filter-le (λ y. not (p y)) xs in omega arith)
     by (inr stays) rest = let fewer = rest (rw stays at some) in rw stays (omega arith)
-
--- one is left where not all go
-pub some_left : {X : Type 0} (p : X → Bool) (xs : List X) → list_all p xs ≡ false → 0 < length (filter (λ x. not (p x)) xs)
-some_left p [] not_all = absurd (true≢false not_all)
-some_left p (x ∷ xs) not_all = by (cases_Bool (p x)) (some_left p xs)
-  where
-    by : (p x ≡ true) ⊎ (p x ≡ false) → (list_all p xs ≡ false → 0 < length (filter (λ y. not (p y)) xs)) → 0 < length (filter (λ y. not (p y)) (x ∷ xs))
-    by (inl goes) rest = let left = rest (rw goes at not_all) in rw goes left
-    by (inr stays) rest = rw stays (omega arith)
 
 -- a rule more is set
 pub set_of-push : (rules : List Rule) (rule : Rule) → set_of (rules ++ rule ∷ []) ≡ with_rule rule (set_of rules)

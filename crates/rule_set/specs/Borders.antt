@@ -1,5 +1,5 @@
 -- The borders of placement rules inside a region: a region is split there before it is checked (PD documentation, "Placement Rules").
-use Rattle.std.specs.Prelude.{◌≡◌, ℕ, Bool, true, ◌&&◌, ◌||◌, not, List, [], ◌∷◌, ◌⊎◌, nat_eq, Contains, AllPairs}
+use Rattle.std.specs.Prelude.{◌≡◌, ℕ, Bool, true, ◌&&◌, ◌||◌, List, ◌⊎◌, nat_eq, Contains, AllPairs}
 use Rattle.std.specs.Cmp.Lexicographic.{pointwise}
 use Rattle.std.specs.Ordering.{is_lt}
 use Rattle.pd_types.specs.declared.rule.Rule.{Rule}

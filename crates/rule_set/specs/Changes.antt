@@ -1,6 +1,6 @@
 -- What setting and removing a rule make of a list of rules, and why they are refused (pd-ctl, `config placement-rules`).
-use Rattle.std.specs.Prelude.{◌≡◌, ℕ, nat_le, Bool, false, if◌then◌else◌, List, [], length, fold, codes, Option, Some, None, ⊤}
-use Rattle.std.specs.List.{list_any, list_all}
+use Rattle.std.specs.Prelude.{◌≡◌, ℕ, nat_le, ◌==◌, Bool, false, if◌then◌else◌, List, [], length, fold, codes, Option, Some, None, ⊤}
+use Rattle.std.specs.List.{list_any}
 use Rattle.pd_types.specs.declared.rule.Rule.{Rule}
 use Rattle.pd_types.specs.declared.rule.RuleRole.TheVariants.{Voter}
 use Rattle.rule_set.specs.declared.set.TheConstants.{MOST_RULES}
@@ -32,10 +32,10 @@ abbrev pub RefusedBy : Option SetFault → SetFault → Type 0
 RefusedBy refusal Limit = refusal ≡ Some Limit
 RefusedBy refusal NoMemory = ⊤
 
--- of removing a rule: there is none of this group and id, or no other one
+-- of removing a rule: there is none of this group and id, or it is the only rule
 abbrev pub remove_refusal : List ℕ → List ℕ → List Rule → Option RemoveFault
 remove_refusal group id rules =
-    if knows group id rules then (if list_all (is_named group id) rules then Some LastRule else None) else Some Absent
+    if knows group id rules then (if length rules == 1 then Some LastRule else None) else Some Absent
 
 -- group `pd`, id `default`: three voters anywhere
 abbrev pub default_rule : Rule

@@ -1,5 +1,5 @@
 -- Which placement rules are in force at a key (PD documentation, "Placement Rules": `start_key`, `end_key`, `override`).
-use Rattle.std.specs.Prelude.{ℕ, Bool, true, false, ◌&&◌, ◌||◌, not, nat_eq, if◌then◌else◌, List, [], ◌∷◌}
+use Rattle.std.specs.Prelude.{◌≡◌, ◌<◌, slice_get, Some, ℕ, Bool, true, false, ◌&&◌, ◌||◌, not, nat_eq, if◌then◌else◌, List, [], ◌∷◌}
 use Rattle.std.specs.List.{list_any}
 use Rattle.std.specs.Ordering.{is_lt}
 use Rattle.std.specs.Cmp.Lexicographic.{pointwise}
@@ -18,6 +18,13 @@ holds rule key = in_range rule.start rule.end key
 -- a later rule hides a rule at a key: it is of its group, its range holds the key, and it overrides
 abbrev pub hides : List ℕ → Rule → Rule → Bool
 hides key rule later = later.overrides && pointwise nat_eq later.group rule.group && holds later key
+
+-- the rule stands at a place, its range holds the key, and no rule at a later place hides it there
+pub record IsInForce (rules : List Rule) (key : List ℕ) (rule : Rule) : Type 0 where
+  pub place : ℕ
+  pub here : slice_get rules place ≡ Some rule
+  pub held : holds rule key ≡ true
+  pub free : (later : ℕ) (other : Rule) → place < later → slice_get rules later ≡ Some other → hides key rule other ≡ false
 
 -- of rules in order, those whose range holds the key and that no later one hides
 abbrev pub rules_at : List ℕ → List Rule → List Rule

@@ -2,3 +2,4 @@ pub mod Order
 pub mod InForce
 pub mod Borders
 pub mod Changes
+pub mod RuleSets

@@ -1,6 +1,6 @@
 -- The order of placement rules (PD documentation, "Placement Rules": by group, index and id).
-use Rattle.std.specs.Prelude.{◌≡◌, ℕ, Bool, true, false, ◌&&◌, not, nat_eq, List, [], ◌∷◌, ◌++◌, filter, AllPairs}
-use Rattle.std.specs.Ordering.{nat_cmp, ordering_then, is_lt, is_gt}
+use Rattle.std.specs.Prelude.{◌≡◌, ℕ, Bool, true, ◌&&◌, not, nat_eq, List, ◌∷◌, ◌++◌, filter, AllPairs}
+use Rattle.std.specs.Ordering.{nat_cmp, ordering_then, is_lt}
 use Rattle.std.specs.declared.cmp.Ordering.{Ordering}
 use Rattle.std.specs.Cmp.Lexicographic.{slice_cmp, pointwise}
 use Rattle.pd_types.specs.declared.rule.Rule.{Rule}
@@ -18,9 +18,17 @@ order_of one other =
 abbrev pub comes_before : Rule → Rule → Bool
 comes_before one other = is_lt (order_of one other)
 
--- no rule comes after one that stands behind it
+-- each rule comes before those behind it
 abbrev pub AreInOrder : List Rule → Type 0
-AreInOrder rules = AllPairs (λ one later. is_gt (order_of one later) ≡ false) rules
+AreInOrder rules = AllPairs (λ one later. comes_before one later ≡ true) rules
+
+-- two rules have another group or another id
+abbrev pub AreApart : Rule → Rule → Type 0
+AreApart one other = one.group ≡ other.group → one.id ≡ other.id → ⊥
+
+-- no two rules have one group and id
+abbrev pub AreNamedApart : List Rule → Type 0
+AreNamedApart rules = AllPairs AreApart rules
 
 -- the rule has this group and this id
 abbrev pub is_named : List ℕ → List ℕ → Rule → Bool

@@ -1,7 +1,7 @@
-ghost use Rattle.std.specs.Prelude.{◌≡◌, ◌<◌, ◌≤◌, ℕ, true, false, length, slice_index_or, vec_len};
+ghost use Rattle.std.specs.Prelude.{◌≡◌, All, ◌<◌, ◌≤◌, ℕ, true, false, length, slice_index_or, vec_len};
 ghost use Rattle.std.specs.Vec.{vec_capacity};
 ghost use Rattle.pd_types.specs.declared.rule.Rule.{Rule};
-ghost use Rattle.rule_set.specs.Order.{AreInOrder, comes_before, placed, without, is_named};
+ghost use Rattle.rule_set.specs.Order.{AreInOrder, AreApart, AreNamedApart, comes_before, placed, without, is_named};
 
 use crate::order::{is_before, is_named};
 use pd_types::Rule;
@@ -19,9 +19,12 @@ pub fn earlier(rules: &[Rule], rule: &Rule) -> usize
 /// Puts a rule in its place, where there is room for it.
 pub fn place(rules: &mut Vec<Rule>, rule: Rule)
     requires order { AreInOrder rules.old.items }
+    requires names { AreNamedApart rules.old.items }
+    requires other { All (AreApart rule) rules.old.items }
     requires room { vec_len rules.old < vec_capacity rules.old }
     ensures value { rules.new.items ≡ placed rule rules.old.items }
     ensures order { AreInOrder rules.new.items }
+    ensures names { AreNamedApart rules.new.items }
 {
     let at = earlier(rules, &rule);
     let Ok(()) = rules.insert(at, rule) else {
@@ -31,9 +34,11 @@ pub fn place(rules: &mut Vec<Rule>, rule: Rule)
 
 /// Takes out the rules of this group and id.
 pub fn take_out(rules: &mut Vec<Rule>, group: &[u8], id: &[u8])
-    requires { AreInOrder rules.old.items }
+    requires order { AreInOrder rules.old.items }
+    requires names { AreNamedApart rules.old.items }
     ensures value { rules.new.items ≡ without group.now id.now rules.old.items }
     ensures order { AreInOrder rules.new.items }
+    ensures names { AreNamedApart rules.new.items }
     ensures capacity { vec_capacity rules.new ≡ vec_capacity rules.old }
     ensures shorter { vec_len rules.new ≤ vec_len rules.old }
 {

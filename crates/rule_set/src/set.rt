@@ -1,14 +1,17 @@
 ghost use Rattle.std.specs.Vec.{vec_capacity};
-ghost use Rattle.std.specs.Prelude.{◌≡◌, ◌<◌, ◌≤◌, ℕ, None, Some, IfOk, IfErr, OnOk, OnErr, ◌&&◌, not, Contains, List, length, vec_len, [], ◌∷◌};
+ghost use Rattle.std.specs.Prelude.{◌≡◌, ◌↔◌, All, ◌<◌, ◌≤◌, ℕ, None, Some, IfOk, IfErr, OnOk, OnErr, ◌&&◌, not, Contains, List, length, vec_len, [], ◌∷◌};
 ghost use Rattle.pd_types.specs.declared.rule.Rule.{Rule};
-ghost use Rattle.rule_set.specs.Order.{AreInOrder, without, is_named};
+ghost use Rattle.rule_set.specs.declared.set.TheConstants.{MOST_RULES};
+ghost use Rattle.rule_set.specs.Order.{AreInOrder, AreNamedApart, without};
+ghost use Rattle.rule_set.specs.RuleSets.{HasFewLocations, IsRuleSet};
 ghost use Rattle.rule_set.specs.Changes.{knows, with_rule, set_of, set_refusal, remove_refusal, RefusedBy, default_rule};
-ghost use Rattle.std.specs.List.{list_any, list_all};
+ghost use Rattle.std.specs.List.{list_any};
 ghost use Rattle.rule_set.specs.Borders.{AreRising, IsBorder};
-ghost use Rattle.rule_set.specs.InForce.{rules_at, holds, hides};
+ghost use Rattle.rule_set.specs.InForce.{rules_at, holds, hides, IsInForce};
 
 use crate::border::borders;
-use crate::order::{hides, holds, is_named};
+use crate::conditions::knows;
+use crate::order::{hides, holds};
 use crate::places::{place, take_out};
 use crate::{RemoveFault, SetFault};
 use pd_types::{
@@ -21,6 +24,9 @@ use std::mem;
 /// A set has at most this many rules.
 pub const MOST_RULES: usize = 64;
 
+/// A rule in a set has at most this many location labels.
+pub const MOST_LOCATIONS: usize = 4;
+
 /// The placement rules of a cluster, from 1 to 64. Contracts see them as a list in order of group,
 /// index and id.
 #[derive(Drop)]
@@ -30,54 +36,55 @@ pub struct RuleSet {
 }
 
 impl Model for RuleSet {
-    ghost use Rattle.std.specs.Prelude.{List, ◌<◌, ◌≤◌, length};
+    ghost use Rattle.std.specs.Prelude.{List};
     ghost use Rattle.pd_types.specs.declared.rule.Rule.{Rule};
-    ghost use Rattle.rule_set.specs.Order.{AreInOrder};
+    ghost use Rattle.rule_set.specs.RuleSets.{IsRuleSet};
 
     ghost Value = { List Rule };
 
     ghost view = { λ s. s.rules };
 
-    ghost invariant = { λ s. AreInOrder s.rules × (0 < length s.rules) × (length s.rules ≤ 64) };
-}
-
-// Whether a rule has this group and id.
-fn knows(rules: &[Rule], group: &[u8], id: &[u8]) -> bool
-    ensures { result ≡ knows group.now id.now rules.now }
-{
-    rules.iter().any(|rule| is_named(group, id, rule))
-}
-
-// Whether all rules have this group and id.
-fn are_named(rules: &[Rule], group: &[u8], id: &[u8]) -> bool
-    ensures { result ≡ list_all (is_named group.now id.now) rules.now }
-{
-    rules.iter().all(|rule| is_named(group, id, rule))
+    ghost invariant = { λ s. IsRuleSet s.rules };
 }
 
 // Puts a rule in place of one of its group and id, where there is room for it.
 fn set_reserved(rules: &mut Vec<Rule>, rule: Rule)
     requires order { AreInOrder rules.old.items }
+    requires names { AreNamedApart rules.old.items }
     requires room { vec_len rules.old < vec_capacity rules.old }
     ensures value { rules.new.items ≡ with_rule rule rules.old.items }
     ensures order { AreInOrder rules.new.items }
+    ensures names { AreNamedApart rules.new.items }
 {
     take_out(rules, rule.group.as_bytes(), rule.id.as_bytes());
     place(rules, rule);
 }
 
+// These rules, set one after another.
+fn gathered(alloc: Global, rules: Rules) -> Result<Vec<Rule>, NoMemory>
+    ensures value { IfOk result (λ items. items.items ≡ set_of rules) }
+    ensures order { IfOk result (λ items. AreInOrder items.items) }
+    ensures names { IfOk result (λ items. AreNamedApart items.items) }
+    ensures fewer { IfOk result (λ items. length items.items ≤ length rules) }
+    ensures some { 0 < length rules → IfOk result (λ items. 0 < length items.items) }
+{
+    let mut items = Vec::new(alloc);
+    for rule in rules.into_vec() {
+        items.reserve(1)?;
+        set_reserved(&mut items, rule);
+    }
+    Ok(items)
+}
+
 // Sets a rule.
 fn set_in(rules: &mut Vec<Rule>, rule: Rule) -> Result<(), SetFault>
-    requires order { AreInOrder rules.old.items }
-    requires some { 0 < length rules.old.items }
-    requires few { length rules.old.items ≤ 64 }
+    requires rules { IsRuleSet rules.old.items }
+    requires locations { HasFewLocations rule }
     ensures ok { OnOk result (rules.new.items ≡ with_rule rule rules.old.items) }
     ensures accepted { OnOk result (set_refusal rule rules.old.items ≡ None) }
     ensures refused { IfErr result (RefusedBy (set_refusal rule rules.old.items)) }
     ensures err { OnErr result (rules.new.items ≡ rules.old.items) }
-    ensures order { AreInOrder rules.new.items }
-    ensures some { 0 < length rules.new.items }
-    ensures few { length rules.new.items ≤ 64 }
+    ensures rules { IsRuleSet rules.new.items }
 {
     if !knows(rules, rule.group.as_bytes(), rule.id.as_bytes()) && rules.len() >= MOST_RULES {
         return Err(SetFault::Limit);
@@ -91,21 +98,17 @@ fn set_in(rules: &mut Vec<Rule>, rule: Rule) -> Result<(), SetFault>
 
 // Removes a rule.
 fn remove_in(rules: &mut Vec<Rule>, group: &[u8], id: &[u8]) -> Result<(), RemoveFault>
-    requires order { AreInOrder rules.old.items }
-    requires some { 0 < length rules.old.items }
-    requires few { length rules.old.items ≤ 64 }
+    requires rules { IsRuleSet rules.old.items }
     ensures ok { OnOk result (rules.new.items ≡ without group.now id.now rules.old.items) }
     ensures accepted { OnOk result (remove_refusal group.now id.now rules.old.items ≡ None) }
     ensures refused { IfErr result (λ fault. remove_refusal group.now id.now rules.old.items ≡ Some fault) }
     ensures err { OnErr result (rules.new.items ≡ rules.old.items) }
-    ensures order { AreInOrder rules.new.items }
-    ensures some { 0 < length rules.new.items }
-    ensures few { length rules.new.items ≤ 64 }
+    ensures rules { IsRuleSet rules.new.items }
 {
     if !knows(rules, group, id) {
         return Err(RemoveFault::Absent);
     }
-    if are_named(rules, group, id) {
+    if rules.len() == 1 {
         return Err(RemoveFault::LastRule);
     }
     take_out(rules, group, id);
@@ -147,34 +150,32 @@ impl RuleSet {
         Ok(RuleSet { rules, alloc })
     }
 
-    /// These rules, set one after another. There are 1 to 64.
+    /// These rules. There are 1 to 64, no two of one group and id (`are_named_apart`), each with at
+    /// most 4 location labels (`have_few_locations`).
     pub fn of(alloc: Global, rules: Rules) -> Result<RuleSet, NoMemory>
         requires some { 0 < length rules }
-        requires few { length rules ≤ 64 }
+        requires few { length rules ≤ MOST_RULES }
+        requires names { AreNamedApart rules }
+        requires locations { All HasFewLocations rules }
         ensures value { IfOk result (λ set. set ≡ set_of rules) }
+        ensures members { IfOk result (λ set. (rule : Rule) → Contains set rule ↔ Contains rules rule) }
     {
-        let mut items = Vec::new(alloc);
-        for rule in rules.into_vec() {
-            items.reserve(1)?;
-            set_reserved(&mut items, rule);
-        }
-        let rules = Rules::of(items);
+        let rules = Rules::of(gathered(alloc, rules)?);
         Ok(RuleSet { rules, alloc })
     }
 
     /// All rules, in order of group, index and id.
     pub fn rules(&self) -> &Rules
         ensures value { result.now ≡ self.now }
-        ensures order { AreInOrder self.now }
-        ensures some { 0 < length self.now }
-        ensures few { length self.now ≤ 64 }
+        ensures rules { IsRuleSet self.now }
     {
         &self.rules
     }
 
-    /// Sets a rule, in place of the one of its group and id. `Limit` comes where there are 64 rules
-    /// and none of this group and id.
+    /// Sets a rule of at most 4 location labels, in place of the one of its group and id. `Limit`
+    /// comes where there are 64 rules and none of this group and id.
     pub fn set(&mut self, rule: Rule) -> Result<(), SetFault>
+        requires locations { HasFewLocations rule }
         ensures ok { OnOk result (self.new ≡ with_rule rule self.old) }
         ensures accepted { OnOk result (set_refusal rule self.old ≡ None) }
         ensures refused { IfErr result (RefusedBy (set_refusal rule self.old)) }
@@ -187,7 +188,7 @@ impl RuleSet {
     }
 
     /// Removes the rule of this group and id. `Absent` comes where there is none, else `LastRule`
-    /// where there is no other rule. It takes no memory.
+    /// where it is the only rule. It takes no memory.
     pub fn remove(&mut self, group: &[u8], id: &[u8]) -> Result<(), RemoveFault>
         ensures ok { OnOk result (self.new ≡ without group.now id.now self.old) }
         ensures accepted { OnOk result (remove_refusal group.now id.now self.old ≡ None) }
@@ -204,7 +205,11 @@ impl RuleSet {
     /// their group that holds it overrides.
     pub fn rules_at(&self, key: &[u8]) -> Result<Rules, NoMemory>
         ensures value { IfOk result (λ rules. rules ≡ rules_at key.now self.now) }
-        ensures few { IfOk result (λ rules. length rules ≤ 64) }
+        ensures members { IfOk result (λ rules. (rule : Rule) → Contains rules rule ↔ IsInForce self.now key.now rule) }
+        ensures order { IfOk result AreInOrder }
+        ensures names { IfOk result AreNamedApart }
+        ensures few { IfOk result (λ rules. length rules ≤ MOST_RULES) }
+        ensures locations { IfOk result (All HasFewLocations) }
     {
         in_force(self.alloc, self.rules.as_slice(), key)
     }

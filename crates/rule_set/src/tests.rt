@@ -1,4 +1,7 @@
-use crate::{RemoveFault, RuleSet, SetFault};
+ghost use Rattle.std.specs.Prelude.{IfOk};
+ghost use Rattle.rule_set.specs.RuleSets.{HasFewLocations};
+
+use crate::{RemoveFault, RuleSet, SetFault, are_named_apart, have_few_locations};
 use pd_types::{Bytes, Constraints, Epoch, Peers, Region, Rule, RuleRole, Rules, Text, Texts};
 use std::alloc::Global;
 use std::test::Fail;
@@ -19,7 +22,9 @@ fn rule(
     overrides: bool,
     start: &str,
     end: &str,
-) -> Result<Rule, Fail> {
+) -> Result<Rule, Fail>
+    ensures { IfOk result HasFewLocations }
+{
     Ok(Rule {
         group: text(alloc, "pd")?,
         id: text(alloc, id)?,
@@ -102,9 +107,33 @@ fn a_list_of_rules_is_put_in_order(rt: HostRuntime) -> Result<(), Fail> {
         rules.push(rule(alloc, id, index, false, "", "")?)?;
     }
     assert!(rt; !rules.is_empty() && rules.len() <= 64);
+    assert!(rt; are_named_apart(rules.as_slice()));
+    assert!(rt; have_few_locations(rules.as_slice()));
     let set = RuleSet::of(alloc, rules)?;
     let found = names(alloc, set.rules().as_slice())?;
     assert_eq!(rt; found.as_str(), "c a b ");
+    Ok(())
+}
+
+// A list of two rules of one name, or with a rule of five labels, is no set.
+#[test]
+fn tells_what_makes_no_set(rt: HostRuntime) -> Result<(), Fail> {
+    let alloc = rt.alloc();
+    let mut rules = Rules::new(alloc);
+    rules.push(rule(alloc, "a", 1, false, "", "")?)?;
+    let mut other = rule(alloc, "a", 2, false, "", "")?;
+    for label in ["zone", "rack", "host", "disk"] {
+        other.locations.push(text(alloc, label)?)?;
+    }
+    rules.push(other)?;
+    assert!(rt; have_few_locations(rules.as_slice()));
+    assert!(rt; !are_named_apart(rules.as_slice()));
+    let mut more = rule(alloc, "b", 1, false, "", "")?;
+    for label in ["a", "b", "c", "d", "e"] {
+        more.locations.push(text(alloc, label)?)?;
+    }
+    rules.push(more)?;
+    assert!(rt; !have_few_locations(rules.as_slice()));
     Ok(())
 }
 

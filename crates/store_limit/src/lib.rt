@@ -8,5 +8,8 @@ mod limits;
 mod tests;
 
 pub use bucket::{MAX_RATE, PEER_UNITS, START_RATE};
-pub use laws::one_number_is_the_least_over_all_charges;
+pub use laws::{
+    a_peer_is_sixty_thousand_units, an_earlier_moment_counts_as_the_last,
+    one_number_is_the_least_over_all_charges, the_numbers,
+};
 pub use limits::{LimitKind, Limited, Limits};

@@ -110,7 +110,7 @@ impl Limits {
     /// where the store isn't known. What the bucket holds is cut to what the new rate allows.
     pub fn set_rate(&mut self, store: u64, kind: LimitKind, rate: u64, now: u64) -> bool
         requires { rate ≤ MAX_RATE }
-        ensures unknown { IsTrue result ↔ IsSome (map.get self.old store) }
+        ensures known { IsTrue result ↔ IsSome (map.get self.old store) }
         ensures value { self.new ≡ with_rate self.old store kind rate now }
     {
         let Some(found) = self.stores.get(store) else {

@@ -1,5 +1,3 @@
-use pd_types::NoMemory;
-use std::alloc::{AllocError, AllocFailed};
 use thiserror::Error;
 
 /// Why a call on a store is refused. A refused call leaves all stores as they were.

@@ -1,5 +1,6 @@
 ghost use Rattle.std.specs.Prelude.{◌≡◌, None, OnOk, OnErr, Some, IfOk, IfErr, ◌<◌, ◌≤◌, ℕ, length, slice_index_or};
 ghost use Rattle.store_table.specs.declared.entry.StoreEntry.{StoreEntry};
+ghost use Rattle.store_table.specs.declared.table.TheConstants.{MOST_STORES};
 ghost use Rattle.store_table.specs.Entries.{AreRising, entry_at, state_at, placed, changed};
 ghost use Rattle.store_table.specs.Calls.{answered, heard, in_state, full_refusal, known_refusal, RefusedBy};
 ghost use Rattle.store_table.specs.Places.{Parts, Stands};
@@ -67,11 +68,13 @@ pub fn insert(
 ) -> Result<(), StoreFault>
     requires rising { AreRising entries.old.items }
     requires absent { Parts entry.store.id entries.old.items place place }
+    requires few { length entries.old.items ≤ MOST_STORES }
     ensures ok { OnOk result (entries.new.items ≡ placed entry entries.old.items) }
     ensures accepted { OnOk result (full_refusal entries.old.items ≡ None) }
     ensures refused { IfErr result (RefusedBy (full_refusal entries.old.items)) }
     ensures err { OnErr result (entries.new.items ≡ entries.old.items) }
     ensures rising { AreRising entries.new.items }
+    ensures few { length entries.new.items ≤ MOST_STORES }
 {
     if entries.len() >= MOST_STORES {
         return Err(StoreFault::Limit);
@@ -88,6 +91,7 @@ pub fn replace(entries: &mut Vec<StoreEntry>, place: usize, entry: StoreEntry)
     requires known { Stands entry.store.id entries.old.items place }
     ensures value { entries.new.items ≡ placed entry entries.old.items }
     ensures rising { AreRising entries.new.items }
+    ensures many { length entries.new.items ≡ length entries.old.items }
 {
     entries[place] = entry;
 }
@@ -108,6 +112,7 @@ pub fn answer(entries: &mut Vec<StoreEntry>, place: usize, rec: StoreRec, moment
     requires known { Stands rec.id entries.old.items place }
     ensures value { entries.new.items ≡ placed (answered rec moment (entry_at rec.id entries.old.items)) entries.old.items }
     ensures rising { AreRising entries.new.items }
+    ensures many { length entries.new.items ≡ length entries.old.items }
 {
     let known = &entries[place];
     let state = known.store.state;
@@ -123,6 +128,7 @@ pub fn hear(entries: &mut [StoreEntry], place: usize, moment: u64)
     requires inside { place < length entries.old }
     ensures value { (id : ℕ) → Stands id entries.old place → entries.new ≡ changed id (heard moment) entries.old }
     ensures rising { AreRising entries.new }
+    ensures many { length entries.new ≡ length entries.old }
 {
     let known = &mut entries[place];
     known.beat = Some(later_of(known.beat, moment));
@@ -134,6 +140,7 @@ pub fn set_state(entries: &mut [StoreEntry], place: usize, state: StoreState)
     requires inside { place < length entries.old }
     ensures value { (id : ℕ) → Stands id entries.old place → entries.new ≡ changed id (in_state state) entries.old }
     ensures rising { AreRising entries.new }
+    ensures many { length entries.new ≡ length entries.old }
 {
     let known = &mut entries[place];
     known.store.state = state;

@@ -1,8 +1,9 @@
 // The stores that are known in a term.
-ghost use Rattle.std.specs.Prelude.{◌≡◌, ◌↔◌, IsTrue, None, Some, [], IfErr, OnOk, OnErr, IfSome, slice_get, option_map, length};
+ghost use Rattle.std.specs.Prelude.{◌≡◌, ◌≤◌, ◌↔◌, IsTrue, None, Some, [], IfErr, OnOk, OnErr, IfSome, slice_get, option_map, length};
 ghost use Rattle.std.specs.Prelude.{IsSomeAnd};
 ghost use Rattle.std.specs.Option.{option_copied};
 ghost use Rattle.pd_types.specs.declared.store.StoreState.TheVariants as states;
+ghost use Rattle.store_table.specs.declared.table.TheConstants.{MOST_STORES};
 ghost use Rattle.store_table.specs.Entries.{AreRising, entry_at, state_at, placed, changed, is_live, is_usable};
 ghost use Rattle.store_table.specs.Standing.{IsLive, IsUsable, state_name};
 ghost use Rattle.store_table.specs.Calls.{loaded, heard, in_state, answered, load_refusal, put_refusal, known_refusal, bury_refusal, RefusedBy};
@@ -17,22 +18,23 @@ use std::marker::Model;
 pub const MOST_STORES: usize = 256;
 
 /// The stores that are known in a term, tombstones too. Contracts see them as a list of entries by
-/// rising id. A refused call leaves them as they were.
+/// rising id, at most 256. A refused call leaves them as they were.
 #[derive(Drop)]
 pub struct Stores {
     entries: Vec<StoreEntry>,
 }
 
 impl Model for Stores {
-    ghost use Rattle.std.specs.Prelude.{List};
+    ghost use Rattle.std.specs.Prelude.{List, length, ◌≤◌};
     ghost use Rattle.store_table.specs.declared.entry.StoreEntry.{StoreEntry};
+    ghost use Rattle.store_table.specs.declared.table.TheConstants.{MOST_STORES};
     ghost use Rattle.store_table.specs.Entries.{AreRising};
 
     ghost Value = { List StoreEntry };
 
     ghost view = { λ s. s.entries.items };
 
-    ghost invariant = { λ s. AreRising s.entries.items };
+    ghost invariant = { λ s. AreRising s.entries.items × (length s.entries.items ≤ MOST_STORES) };
 }
 
 impl Stores {
@@ -153,6 +155,14 @@ impl Stores {
             Some(entry) => Some(&entry.store),
             None => None,
         }
+    }
+
+    /// How many stores are known: 256 at most.
+    pub fn len(&self) -> usize
+        ensures value { result ≡ length self.now }
+        ensures few { result ≤ MOST_STORES }
+    {
+        self.entries.len()
     }
 
     /// The record at a place, counted from 0 by rising id; none past the end.

@@ -1,4 +1,4 @@
-use Rattle.rule_set.proofs.BorderLemmas.{border_more, every_more, every_border}
+use Rattle.rule_set.proofs.BorderLemmas.{border_more, every_more}
 use Rattle.rule_set.proofs.border.borders.Goals as goal
 
 pub loop-rule-preserved : goal.loop-rule-preserved

@@ -1,11 +1,7 @@
-use Rattle.std.proofs.Common.{sym, ◌∙◌, ◌≡◌, subst, List}
-use Rattle.std.specs.List.{list_all}
-use Rattle.pd_types.specs.declared.rule.Rule.{Rule}
-use Rattle.rule_set.specs.Order.{is_named}
-use Rattle.rule_set.proofs.RuleLemmas.{some_left}
+use Rattle.std.proofs.Common.{arith}
+use Rattle.rule_set.proofs.SetLemmas.{still_set}
 use Rattle.rule_set.proofs.set.remove_in.Goals as goal
 
-pub returns-clause-some : goal.returns-clause-some
-returns-clause-some c =
-    let answer = subst (λ (xs : List Rule). c.are_named.result ≡ list_all (is_named c.args.group.now c.args.id.now) xs) c.deref-2.ensures.value c.are_named.ensures in
-    rw c.take_out.ensures.value (some_left (is_named c.args.group.now c.args.id.now) c.args.rules.now.items (sym answer ∙ c.if-are_named.false))
+pub returns-clause-rules : goal.returns-clause-rules
+returns-clause-rules c =
+    rw c.take_out.ensures.value (still_set c.args.group.now c.args.id.now c.args.rules.now.items c.requires.rules (λ one. c.if-len-eq1.false (omega arith)))

@@ -6,6 +6,7 @@ use Rattle.op_control.specs.Turn.{moves}
 use Rattle.op_control.proofs.ChangeLemmas.{active-state, written-goes}
 use Rattle.op_control.proofs.LifeLemmas.{moved-turned}
 use Rattle.op_control.proofs.SendLemmas.{answer-safe}
+use Rattle.op_control.proofs.ToldLemmas.{told-of}
 use Rattle.op_control.proofs.TableLemmas.{active-last, dropped-listed, kept-listed}
 use Rattle.op_control.proofs.table.Operators.dispatch.Goals as goal
 
@@ -44,3 +45,15 @@ returns-else-not-is_active-clause-life c =
 pub returns-else-not-is_active-clause-safe : goal.returns-else-not-is_active-clause-safe
 returns-else-not-is_active-clause-safe c =
     rw c.advance-answer.ensures.answer (answer-safe c.in-Some.op.now c.args.beat.now c.args.stores.now c.args.now)
+
+pub returns-then-not-is_active-clause-tells : goal.returns-then-not-is_active-clause-tells
+returns-then-not-is_active-clause-tells c =
+    let region = c.args.beat.now.region.id in
+    let held : active_by (map.get c.self.inside.last region) ≡ Some c.in-Some.op.now = sym c.in-Some.ensures in
+    rw (← c.self.view_is) (told-of (map.get c.self.inside.last region) c.in-Some.op.now c.args.beat.now c.args.stores.now c.args.now c.advance-answer.result.1 held c.advance-answer.ensures.answer)
+
+pub returns-else-not-is_active-clause-tells : goal.returns-else-not-is_active-clause-tells
+returns-else-not-is_active-clause-tells c =
+    let region = c.args.beat.now.region.id in
+    let held : active_by (map.get c.self.inside.last region) ≡ Some c.in-Some.op.now = sym c.in-Some.ensures in
+    rw (← c.self.view_is) (told-of (map.get c.self.inside.last region) c.in-Some.op.now c.args.beat.now c.args.stores.now c.args.now c.advance-answer.result.1 held c.advance-answer.ensures.answer)

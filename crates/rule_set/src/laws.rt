@@ -1,0 +1,75 @@
+ghost use Rattle.std.specs.Prelude.{◌≡◌, ◌≢◌, ◌↔◌, ◌⊎◌, ◌<◌, ℕ, List, [], true, false, Contains};
+ghost use Rattle.std.specs.Ordering.{is_lt};
+ghost use Rattle.pd_types.specs.declared.rule.Rule.{Rule};
+ghost use Rattle.pd_types.specs.declared.rule.RuleRole.TheVariants.{Voter};
+ghost use Rattle.pd_types.specs.declared.region.Region.{Region};
+ghost use Rattle.rule_set.specs.Order.{bytes_order, comes_before, without, AreApart};
+ghost use Rattle.rule_set.specs.Changes.{with_rule, default_rule};
+ghost use Rattle.rule_set.specs.InForce.{holds, hides};
+ghost use Rattle.rule_set.specs.Borders.{IsBorder};
+
+use crate::{MOST_LOCATIONS, MOST_RULES};
+
+const _: () = prove!(MOST_RULES == 64 && MOST_LOCATIONS == 4);
+
+/// The numbers, which are our own.
+pub fn the_numbers()
+    ensures rules { MOST_RULES ≡ 64 }
+    ensures locations { MOST_LOCATIONS ≡ 4 }
+{}
+
+/// A rule that is set takes the place of the one of its group and id, and a rule that is removed is
+/// the one of this group and id; all others stay.
+pub fn rules_go_by_their_names()
+    ensures set { (rule one : Rule) (rules : List Rule) →
+        Contains (with_rule rule rules) one ↔ ((rule ≡ one) ⊎ (Contains rules one × AreApart one rule)) }
+    ensures removed { (group id : List ℕ) (one : Rule) (rules : List Rule) →
+        Contains (without group id rules) one ↔
+        (Contains rules one × (one.group ≡ group → one.id ≡ id → ⊥)) }
+{}
+
+/// The group comes first, then the index, and then the id.
+pub fn group_then_index_then_id()
+    ensures group { (one other : Rule) →
+        is_lt (bytes_order one.group other.group) ≡ true → comes_before one other ≡ true }
+    ensures index { (one other : Rule) →
+        one.group ≡ other.group → one.index < other.index → comes_before one other ≡ true }
+    ensures id { (one other : Rule) → one.group ≡ other.group → one.index ≡ other.index →
+        is_lt (bytes_order one.id other.id) ≡ true → comes_before one other ≡ true }
+{}
+
+/// The range of a rule has its start and not its end, nothing before the start, and no end where
+/// that is empty.
+pub fn a_range_ends_before_its_end()
+    ensures start { (rule : Rule) →
+        is_lt (bytes_order rule.start rule.end) ≡ true → holds rule rule.start ≡ true }
+    ensures before { (rule : Rule) (key : List ℕ) →
+        is_lt (bytes_order key rule.start) ≡ true → holds rule key ≡ false }
+    ensures end { (rule : Rule) → rule.end ≢ [] → holds rule rule.end ≡ false }
+    ensures endless { (rule : Rule) (key : List ℕ) → rule.end ≡ [] →
+        is_lt (bytes_order key rule.start) ≡ false → holds rule key ≡ true }
+{}
+
+/// A rule hides another at a key exactly where it overrides, is of its group, and holds the key.
+pub fn an_override_hides_its_group()
+    ensures { (key : List ℕ) (rule later : Rule) → (hides key rule later ≡ true) ↔
+        ((later.overrides ≡ true) × (later.group ≡ rule.group) × (holds later key ≡ true)) }
+{}
+
+/// The default rule asks for three voters at every key.
+pub fn three_voters_anywhere()
+    ensures held { (key : List ℕ) → holds default_rule key ≡ true }
+    ensures voters { default_rule.role ≡ Voter }
+    ensures three { default_rule.count ≡ 3 }
+    ensures any { default_rule.constraints ≡ [] }
+{}
+
+/// A border is a start or an end of a rule; it is neither end of the region, and not empty.
+pub fn a_border_lies_inside()
+    ensures start { (rules : List Rule) (region : Region) (key : List ℕ) →
+        IsBorder rules region key → key ≢ region.start }
+    ensures end { (rules : List Rule) (region : Region) (key : List ℕ) →
+        IsBorder rules region key → key ≢ region.end }
+    ensures some { (rules : List Rule) (region : Region) (key : List ℕ) →
+        IsBorder rules region key → key ≢ [] }
+{}
