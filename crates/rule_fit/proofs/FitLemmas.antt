@@ -1,5 +1,5 @@
 -- Why the answer of `fit` is right.
-use Rattle.std.proofs.Common.{ℕ, Bool, ◌≡◌, ◌<◌, ◌≤◌, ◌≢◌, arith, sym, ◌∙◌, subst, List, length, get_or, Option, sum}
+use Rattle.std.proofs.Common.{ℕ, Bool, ◌≡◌, ◌<◌, ◌≤◌, ◌≢◌, arith, subst, List, length, get_or, Option, sum}
 use Rattle.std.specs.List.{count_by}
 use Rattle.std.specs.Prelude.{is_some}
 use Rattle.std.proofs.lemmas.List.Sums.{count_by-le-length}

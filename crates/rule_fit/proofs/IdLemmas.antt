@@ -1,7 +1,7 @@
 -- Sets of peers by their ids.
-use Rattle.std.proofs.Common.{ℕ, zero, suc, Bool, true, false, not, ◌≡◌, ◌≢◌, ◌+◌, ◌<◌, ◌≤◌, refl, ap, sym, ◌∙◌, List, [], ◌∷◌, ◌++◌, length, get_or, drop, Option, Some, None, arith, eqb, inl, inr, subst}
+use Rattle.std.proofs.Common.{ℕ, zero, suc, Bool, true, false, not, ◌≡◌, ◌≢◌, ◌+◌, ◌<◌, ◌≤◌, refl, ap, sym, ◌∙◌, List, [], ◌∷◌, ◌++◌, length, get_or, drop, Option, Some, None, arith, eqb, inl, inr}
 use Rattle.std.specs.List.{slice_get, list_any, list_all}
-use Rattle.std.proofs.lemmas.Bool.{cases_eq, cases_lt, eq-eqb, ne_eqb, or_right, or_from, and_parts, and_from, or_parts, eqb-false, not-true}
+use Rattle.std.proofs.lemmas.Bool.{cases_eq, cases_lt, eq-eqb, ne_eqb, or_right, and_parts, and_from, or_parts, eqb-false, not-true}
 use Rattle.std.proofs.lemmas.Option.{slice_get-get_or}
 use Rattle.pd_types.specs.declared.region.Peer.{Peer}
 use Rattle.rule_fit.specs.Chosen.{listed}

@@ -1,15 +1,13 @@
 -- What a certificate and a misfit number say of a fit.
-use Rattle.std.proofs.Common.{ℕ, zero, suc, Bool, true, false, cond, ◌≡◌, ◌+◌, ◌-◌, ◌<◌, ◌≤◌, ◌≢◌, arith, refl, ap, sym, ◌∙◌, List, [], ◌∷◌, length, get_or, Option, Some, None, not, sum, inl, inr}
+use Rattle.std.proofs.Common.{ℕ, zero, suc, Bool, ◌≡◌, ◌<◌, arith, refl, sym, ◌∙◌, List, [], ◌∷◌, length}
 use Rattle.std.specs.List.{count_by}
-use Rattle.std.proofs.lemmas.Bool.{cases_lt}
-use Rattle.std.proofs.lemmas.List.{get_or_past}
 use Rattle.rule_fit.specs.declared.answer.Certificate.{Certificate}
 use Rattle.rule_fit.specs.declared.answer.Certificate.TheVariants.{Totals, Peers}
 use Rattle.pd_types.specs.declared.region.Peer.{Peer}
 use Rattle.rule_fit.specs.Ids.{chosen_by}
-use Rattle.rule_fit.specs.Chosen.{wanted, capacity, size_of}
-use Rattle.rule_fit.specs.Certificate.{Lacks, Differ, Certifies, IsMisfitNumber}
-use Rattle.rule_fit.specs.Assignment.{placed, IsAssignment, IsGreatest, Fits}
+use Rattle.rule_fit.specs.Chosen.{size_of}
+use Rattle.rule_fit.specs.Certificate.{Lacks, Certifies, IsMisfitNumber}
+use Rattle.rule_fit.specs.Assignment.{placed, Fits}
 use Rattle.rule_fit.specs.Search.{marked}
 use Rattle.rule_fit.proofs.Totals.{size_marked, in_and_out, size_same, capacity_same}
 use Rattle.rule_fit.proofs.Duality.{placed_bound}

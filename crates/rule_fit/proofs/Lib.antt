@@ -9,3 +9,4 @@ pub mod FitLemmas
 pub mod Regions
 pub mod LawLemmas
 pub mod IdLemmas
+pub mod PickLemmas

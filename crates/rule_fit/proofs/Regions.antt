@@ -1,5 +1,5 @@
 -- The table of a region says which peer suits which rule.
-use Rattle.std.proofs.Common.{ℕ, zero, suc, Bool, true, false, ◌≡◌, refl, ap, sym, ◌∙◌, List, [], ◌∷◌, length, get_or, map, Option, Some, None, Vec, arith, subst}
+use Rattle.std.proofs.Common.{ℕ, zero, suc, Bool, false, ◌≡◌, refl, List, [], ◌∷◌, length, get_or, map, Some, Vec, arith, subst}
 use Rattle.std.specs.Global.{Global}
 use Rattle.std.specs.List.{slice_get}
 use mathlib.Core.Path.{fun_ext}
@@ -7,7 +7,7 @@ use Rattle.pd_types.specs.declared.region.Peer.{Peer}
 use Rattle.pd_types.specs.declared.rule.Rule.{Rule}
 use Rattle.pd_types.specs.declared.region.RegionBeat.{RegionBeat}
 use Rattle.store_table.specs.declared.entry.StoreEntry.{StoreEntry}
-use Rattle.rule_fit.specs.Table.{suits, in_row}
+use Rattle.rule_fit.specs.Table.{suits}
 use Rattle.rule_fit.specs.Suits.{peer_suits, both_suit, suits_in}
 
 cell : (leader : ℕ) (stores : List StoreEntry) (now : ℕ) (peer : Peer) (rules : List Rule) (r : ℕ) → get_or (map (peer_suits leader stores now peer) rules) r false ≡ both_suit leader stores now (Some peer) (slice_get rules r)

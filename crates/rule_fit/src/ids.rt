@@ -1,4 +1,5 @@
-ghost use Rattle.std.specs.Prelude.{◌≡◌, ◌<◌, ℕ, length, IfOk, IsTrue};
+ghost use Rattle.std.specs.Prelude.{Bool, ◌≡◌, ◌<◌, ℕ, length, slice_index_or, map, filter, IfOk, IsTrue};
+ghost use Rattle.pd_types.specs.declared.region.Peer.{Peer};
 ghost use Rattle.std.specs.List.{list_all};
 ghost use Rattle.rule_fit.specs.Chosen.{listed};
 ghost use Rattle.rule_fit.specs.Ids.{chosen_by, AreApart, apart_test, is_peer};
@@ -13,6 +14,9 @@ pub fn ids_of(alloc: Global, peers: &[Peer], reached: &[bool]) -> Result<Vec<u64
     requires same { length reached.now ≡ length peers.now }
     ensures agree { IfOk result (λ ids. (p : ℕ) → p < length peers.now → chosen_by ids.items peers.now p ≡ marked reached.now p) }
     ensures inside { IfOk result (λ ids. IsTrue (list_all (is_peer peers.now) ids.items)) }
+    ensures order { IfOk result (λ ids. (chosen : Peer → Bool) →
+        ((p : ℕ) (d : Peer) → p < length peers.now → chosen (slice_index_or peers.now p d) ≡ marked reached.now p) →
+        ids.items ≡ map (λ peer. peer.id) (filter chosen peers.now)) }
 {
     let mut ids = Vec::new(alloc);
     for (place, peer) in peers.iter().enumerate() {

@@ -15,9 +15,9 @@ mod table;
 mod tests;
 
 pub use answer::{Certificate, Fit, Places};
-pub use certificate::check_certificate;
+pub use certificate::{check_certificate, total};
 pub use ids::are_apart;
 pub use isolation::isolation_score;
 pub use laws::{certificate_refutes, one_misfit_number};
 pub use region::{fit, misfit_number};
-pub use suiting::{peer_suits, satisfies_all, store_suits};
+pub use suiting::{peer_suits, satisfies_all, satisfies_rule, store_suits};

@@ -1,7 +1,7 @@
 ghost use Rattle.std.specs.Prelude.{◌≡◌, ◌≤◌, ◌↔◌, length, IfOk, IsTrue};
 ghost use Rattle.rule_fit.specs.Assignment.{IsGreatest, Fits};
 ghost use Rattle.rule_fit.specs.Certificate.{IsMisfitNumber};
-ghost use Rattle.rule_fit.specs.Fit.{says_fits, given_of, IsCertified};
+ghost use Rattle.rule_fit.specs.Fit.{says_fits, given_of, HasItsKind, IsCertified};
 ghost use Rattle.rule_fit.specs.Ids.{AreApart};
 ghost use Rattle.rule_fit.specs.Suits.{suits_in, counts_of};
 
@@ -27,6 +27,7 @@ fn fit_rules(
     ensures fits { IfOk result (λ fit. IsTrue (says_fits fit) ↔ Fits (suits_in beat.now rules.now stores.now now) (length beat.now.region.peers) (counts_of rules.now)) }
     ensures greatest { IfOk result (λ fit. IsGreatest (suits_in beat.now rules.now stores.now now) (length beat.now.region.peers) (counts_of rules.now) (given_of fit)) }
     ensures certificate { IfOk result (IsCertified (suits_in beat.now rules.now stores.now now) beat.now.region.peers (counts_of rules.now)) }
+    ensures kind { IfOk result (HasItsKind beat.now.region.peers (counts_of rules.now)) }
 {
     let Matching { given, reached } = matching(alloc, beat, rules, stores, now)?;
     let peers = beat.region.peers.as_slice();
@@ -55,7 +56,7 @@ fn fit_rules(
 
 /// Whether each peer of the region can be given one rule that it suits so that each rule has exactly
 /// its count of peers; an assignment that gives the most peers a rule; and a certificate where there
-/// is no fit. A region that has peers never fits without rules. It may be called with at most 15
+/// is no fit: the totals where they differ, else ids of peers, each once and in the region's order. A region that has peers never fits without rules. It may be called with at most 15
 /// peers, no two with one id, and at most 64 rules.
 pub fn fit(
     alloc: Global,
@@ -70,6 +71,7 @@ pub fn fit(
     ensures fits { IfOk result (λ fit. IsTrue (says_fits fit) ↔ Fits (suits_in beat.now rules.now stores.now now) (length beat.now.region.peers) (counts_of rules.now)) }
     ensures greatest { IfOk result (λ fit. IsGreatest (suits_in beat.now rules.now stores.now now) (length beat.now.region.peers) (counts_of rules.now) (given_of fit)) }
     ensures certificate { IfOk result (IsCertified (suits_in beat.now rules.now stores.now now) beat.now.region.peers (counts_of rules.now)) }
+    ensures kind { IfOk result (HasItsKind beat.now.region.peers (counts_of rules.now)) }
 {
     fit_rules(alloc, beat, rules.as_slice(), stores, now)
 }

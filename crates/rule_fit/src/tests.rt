@@ -8,7 +8,7 @@ use pd_types::{
     Bytes, Constraint, Constraints, Downs, Epoch, Ids, Label, Labels, Op, Peer, Peers, Region,
     RegionBeat, Role, Rule, RuleRole, Rules, StoreRec, StoreState, Text, Texts,
 };
-use std::alloc::Global;
+use std::alloc::{AllocError, Global};
 use std::test::Fail;
 use store_table::Stores;
 
@@ -154,6 +154,52 @@ fn equal_totals_do_not_fit(rt: HostRuntime) -> Result<(), Fail> {
         peers: 2,
     };
     assert!(rt; !check_certificate(&totals, &beat, &rules, &stores, 20));
+    Ok(())
+}
+
+// A rule of each pair of a count and a zone, for voters.
+fn zone_rules(alloc: Global, rows: &[(u32, &str)]) -> Result<Rules, Fail> {
+    let mut rules = Rules::new(alloc);
+    for (count, zone) in rows {
+        let constraints = constraint(alloc, "zone", Op::In, zone)?;
+        rules.push(rule(alloc, RuleRole::Voter, *count, constraints)?)?;
+    }
+    Ok(rules)
+}
+
+// What the certificate of three voters on the stores 1 to 3 says under these rules.
+fn certified(alloc: Global, rows: &[(u32, &str)]) -> Result<String, Fail> {
+    let stores = three_stores(alloc)?;
+    let beat = region(alloc, &[Role::Voter; 3])?;
+    let rules = zone_rules(alloc, rows)?;
+    match fitted(alloc, &beat, &rules, &stores)? {
+        Some(Fit::Misfit { certificate, .. }) => Ok(said(alloc, &certificate)?),
+        Some(Fit::Fits { .. }) => Ok(String::from_str(alloc, "fits")?),
+        None => Ok(String::new(alloc)),
+    }
+}
+
+fn said(alloc: Global, certificate: &Certificate) -> Result<String, AllocError> {
+    match certificate {
+        Certificate::Totals { counts, peers } => format!(in alloc; "totals {counts} {peers}"),
+        Certificate::Peers(ids) => format!(in alloc; "peers {:?}", ids.as_slice()),
+    }
+}
+
+// Unequal totals are the certificate whatever the peers suit, and without rules they are 0 and the
+// number of peers. Of the two peers in zone z1 one has the rule of one peer, and each of them shows
+// that the other can't have it too.
+#[test]
+fn a_certificate_is_of_its_kind(rt: HostRuntime) -> Result<(), Fail> {
+    let alloc = rt.alloc();
+    let without = certified(alloc, &[])?;
+    assert_eq!(rt; without.as_str(), "totals 0 3");
+    let unequal = certified(alloc, &[(1, "z9"), (1, "z2")])?;
+    assert_eq!(rt; unequal.as_str(), "totals 2 3");
+    let two = certified(alloc, &[(1, "z1"), (2, "z2")])?;
+    assert_eq!(rt; two.as_str(), "peers [11, 13]");
+    let fits = certified(alloc, &[(2, "z1"), (1, "z2")])?;
+    assert_eq!(rt; fits.as_str(), "fits");
     Ok(())
 }
 

@@ -13,6 +13,6 @@ mod tests;
 mod words;
 
 pub use fault::RuleFault;
-pub use laws::what_is_printed_is_read;
+pub use laws::{the_bounds, what_is_printed_is_read};
 pub use print::print_rule;
 pub use read::read_rule;

@@ -235,57 +235,54 @@ fn agrees(
     Ok(same && u128::from(number) + 2 * u128::from(best.placed) == missing)
 }
 
-// Whether none is above the one before it.
-fn is_falling(numbers: &[u32; 4]) -> bool {
-    let [a, b, c, d] = *numbers;
-    a >= b && b >= c && c >= d
-}
-
-// Whether the peers go by falling masks, and suit none of the rules that are left out.
-fn is_drawn(masks: &[u32; 4], counts: &[u32; 4]) -> bool {
-    if !is_falling(masks) {
-        return false;
-    }
-    for (place, count) in counts.iter().enumerate() {
-        let rule = place as u32 + 1;
-        if *count == 0 && masks.iter().any(|mask| is_suited(*mask, rule)) {
-            return false;
-        }
-    }
-    true
-}
-
-// The first masks of up to four peers of which the searches say different things. The peers that
-// suit more rules come first, so that they must make room.
+// The first masks of this many peers of which the searches say different things, of all masks below
+// a bound.
 fn first_difference(
     alloc: Global,
     stores: &Stores,
     counts: &[u32; 4],
-) -> Result<Option<[u32; 4]>, Fail> {
+    many: u32,
+    bound: u32,
+) -> Result<Option<[u32; 4]>, Fail>
+    requires { 0 < bound }
+{
     let rules = labelled_rules(alloc, counts)?;
-    for (many, cases) in [(0, 1), (1, 16), (2, 256), (3, 4096), (4, 65536)] {
-        for number in 0..cases {
-            let masks = digits(number, 16);
-            if is_drawn(&masks, counts) && !agrees(alloc, stores, &rules, counts, &masks, many)? {
-                return Ok(Some(masks));
-            }
+    for number in 0..bound.saturating_pow(many) {
+        let masks = digits(number, bound);
+        if !agrees(alloc, stores, &rules, counts, &masks, many)? {
+            return Ok(Some(masks));
         }
     }
     Ok(None)
 }
 
-// Each of the four rules is left out, or has a count of 1 to 4; those with greater counts come first.
+// Each of three rules is left out, or has a count of 1 or 2; up to three peers suit any of them. All
+// orders of the rules and of the peers are tried.
 #[test]
-fn agrees_with_every_assignment(rt: HostRuntime) -> Result<(), Fail> {
+fn agrees_on_three_peers_of_three_rules(rt: HostRuntime) -> Result<(), Fail> {
     let alloc = rt.alloc();
     let stores = labelled_stores(alloc)?;
-    for number in 0..625 {
-        let counts = digits(number, 5);
-        if !is_falling(&counts) {
-            continue;
+    for number in 0..27 {
+        let counts = digits(number, 3);
+        for many in 0..4 {
+            assert_eq!(rt;
+                first_difference(alloc, &stores, &counts, many, 8)?,
+                None,
+                "counts {counts:?} peers {many}"
+            );
         }
+    }
+    Ok(())
+}
+
+// Four peers suit any of two rules of two peers each, in all orders.
+#[test]
+fn agrees_on_four_peers_of_two_rules(rt: HostRuntime) -> Result<(), Fail> {
+    let alloc = rt.alloc();
+    let stores = labelled_stores(alloc)?;
+    for counts in [[2, 2, 0, 0], [1, 3, 0, 0], [3, 1, 0, 0]] {
         assert_eq!(rt;
-            first_difference(alloc, &stores, &counts)?,
+            first_difference(alloc, &stores, &counts, 4, 4)?,
             None,
             "counts {counts:?}"
         );

@@ -1,11 +1,13 @@
-use Rattle.std.proofs.Common.{◌≡◌, ◌<◌, ℕ, length, arith, sym, ◌∙◌, ap, subst, true, List, Bool}
-use Rattle.std.specs.List.{list_all}
+use Rattle.std.proofs.Common.{◌≡◌, ◌<◌, ℕ, length, arith, sym, ◌∙◌, ap, subst, true, List, Bool, sum, map}
+use Rattle.std.specs.List.{list_all, filter}
 use Rattle.pd_types.specs.declared.region.Peer.{Peer}
 use Rattle.rule_fit.specs.Ids.{chosen_by, is_peer}
+use Rattle.rule_fit.specs.Chosen.{listed}
 use Rattle.rule_fit.specs.Search.{marked}
+use Rattle.rule_fit.proofs.PickLemmas.{listed_agrees}
 use Rattle.rule_fit.specs.Suits.{suits_in, counts_of}
 use Rattle.rule_fit.specs.Assignment.{placed}
-use Rattle.rule_fit.proofs.FitLemmas.{fit_whole, fit_totals, no_fit, reached_lack}
+use Rattle.rule_fit.proofs.FitLemmas.{fit_whole, fit_totals, reached_lack}
 use Rattle.rule_fit.proofs.region.fit_rules.Goals as goal
 
 pub returns-then-sum-many-clause-fits : goal.returns-then-sum-many-clause-fits
@@ -34,3 +36,13 @@ returns-clause-certificate c =
     (λ every. c.if-placed-peers.false (let same : c.placed.result ≡ placed c.in_ok-given.field-0.given.items = cc in same ∙ every ∙ sym long))
     (λ p low. agree p low ∙ ap (λ (bs : List Bool). marked bs p) c.deref-2.ensures.value)
     inside)
+
+pub returns-clause-kind : goal.returns-clause-kind
+returns-clause-kind c =
+    let ids = c.in_ok-ids.ids.items in
+    let chosen : Peer → Bool = λ (peer : Peer). listed ids peer.id in
+    let long = ap length c.as_slice-peers.ensures.value in
+    let value = c.total-sum.ensures.value in
+    let equal : sum (counts_of c.args.rules.now) ≡ length c.args.beat.now.region.peers = omega arith in
+    let order = c.in_ok-ids.ensures.order chosen (listed_agrees ids c.as_slice-peers.result.now c.deref-2.result.now c.in_ok-ids.ensures.agree) in
+    rw c.of-3.ensures.value (equal, chosen, order ∙ ap (λ (peers : List Peer). map (λ (peer : Peer). peer.id) (filter chosen peers)) c.as_slice-peers.ensures.value)
