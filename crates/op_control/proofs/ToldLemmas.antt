@@ -16,7 +16,7 @@ use Rattle.op_control.specs.declared.operator.OpState.TheVariants.{Created, Star
 use Rattle.op_control.specs.declared.turn.Dispatch.{Dispatch}
 use Rattle.op_control.specs.declared.turn.Dispatch.TheVariants as dispatch
 use Rattle.op_control.specs.Turn.{answer_of, finished_count, is_astray, late_in, passed_by, sent_by, unless_late, with_left}
-use Rattle.op_control.specs.Told.{IsInTime, IsNextStep, Kept, Told}
+use Rattle.op_control.specs.Told.{LeavesSome, IsInTime, IsNextStep, Kept, Told}
 use Rattle.op_control.specs.Table.{active_by}
 use Rattle.op_control.proofs.SendLemmas.{let-through}
 
@@ -58,29 +58,32 @@ told-sent op beat stores now step more kept here (Ok u) e in_time =
 told-sent op beat stores now step more kept here (Err held) e in_time =
     (kept, in_time, record { step = step; next = is-next op beat step more here; gate = e })
 
-told-expired : (op : Operator) (beat : RegionBeat) (stores : List StoreEntry) (now : ℕ) (answer : Dispatch) → Kept op beat → op.state ≡ Created → (b : Bool) → nat_lt EXPIRED_MS (now - op.created) ≡ b → (IsInTime op now → Told op beat stores now answer) → Told op beat stores now (unless_late (cond b (Some Expired) None) answer)
-told-expired op beat stores now answer kept is true late told = (kept, is, ltb-true EXPIRED_MS (now - op.created) late)
-told-expired op beat stores now answer kept is false late told =
+told-expired : (op : Operator) (beat : RegionBeat) (stores : List StoreEntry) (now : ℕ) (answer : Dispatch) → Kept op beat → LeavesSome op beat → op.state ≡ Created → (b : Bool) → nat_lt EXPIRED_MS (now - op.created) ≡ b → (IsInTime op now → Told op beat stores now answer) → Told op beat stores now (unless_late (cond b (Some Expired) None) answer)
+told-expired op beat stores now answer kept some is true late told = (kept, some, is, ltb-true EXPIRED_MS (now - op.created) late)
+told-expired op beat stores now answer kept some is false late told =
     told (record { created = λ _. ltb-false EXPIRED_MS (now - op.created) late; started = λ other. absurd cc })
 
-told-timeout : (op : Operator) (beat : RegionBeat) (stores : List StoreEntry) (now : ℕ) (answer : Dispatch) → Kept op beat → op.state ≡ Started → (b : Bool) → nat_lt TIMEOUT_MS (now - op.started) ≡ b → (IsInTime op now → Told op beat stores now answer) → Told op beat stores now (unless_late (cond b (Some Timeout) None) answer)
-told-timeout op beat stores now answer kept is true late told = (kept, is, ltb-true TIMEOUT_MS (now - op.started) late)
-told-timeout op beat stores now answer kept is false late told =
+told-timeout : (op : Operator) (beat : RegionBeat) (stores : List StoreEntry) (now : ℕ) (answer : Dispatch) → Kept op beat → LeavesSome op beat → op.state ≡ Started → (b : Bool) → nat_lt TIMEOUT_MS (now - op.started) ≡ b → (IsInTime op now → Told op beat stores now answer) → Told op beat stores now (unless_late (cond b (Some Timeout) None) answer)
+told-timeout op beat stores now answer kept some is true late told = (kept, some, is, ltb-true TIMEOUT_MS (now - op.started) late)
+told-timeout op beat stores now answer kept some is false late told =
     told (record { created = λ other. absurd cc; started = λ _. ltb-false TIMEOUT_MS (now - op.started) late })
 
-told-late : (op : Operator) (beat : RegionBeat) (stores : List StoreEntry) (now : ℕ) (answer : Dispatch) → Kept op beat → (state : OpState) → op.state ≡ state → (IsInTime op now → Told op beat stores now answer) → Told op beat stores now (unless_late (late_in state op now) answer)
-told-late op beat stores now answer kept Created is told = told-expired op beat stores now answer kept is _ refl told
-told-late op beat stores now answer kept Started is told = told-timeout op beat stores now answer kept is _ refl told
-told-late op beat stores now answer kept Success is told = told (record { created = λ other. absurd cc; started = λ other. absurd cc })
-told-late op beat stores now answer kept Canceled is told = told (record { created = λ other. absurd cc; started = λ other. absurd cc })
-told-late op beat stores now answer kept Replaced is told = told (record { created = λ other. absurd cc; started = λ other. absurd cc })
-told-late op beat stores now answer kept Expired is told = told (record { created = λ other. absurd cc; started = λ other. absurd cc })
-told-late op beat stores now answer kept Timeout is told = told (record { created = λ other. absurd cc; started = λ other. absurd cc })
+told-late : (op : Operator) (beat : RegionBeat) (stores : List StoreEntry) (now : ℕ) (answer : Dispatch) → Kept op beat → LeavesSome op beat → (state : OpState) → op.state ≡ state → (IsInTime op now → Told op beat stores now answer) → Told op beat stores now (unless_late (late_in state op now) answer)
+told-late op beat stores now answer kept some Created is told = told-expired op beat stores now answer kept some is _ refl told
+told-late op beat stores now answer kept some Started is told = told-timeout op beat stores now answer kept some is _ refl told
+told-late op beat stores now answer kept some Success is told = told (record { created = λ other. absurd cc; started = λ other. absurd cc })
+told-late op beat stores now answer kept some Canceled is told = told (record { created = λ other. absurd cc; started = λ other. absurd cc })
+told-late op beat stores now answer kept some Replaced is told = told (record { created = λ other. absurd cc; started = λ other. absurd cc })
+told-late op beat stores now answer kept some Expired is told = told (record { created = λ other. absurd cc; started = λ other. absurd cc })
+told-late op beat stores now answer kept some Timeout is told = told (record { created = λ other. absurd cc; started = λ other. absurd cc })
+
+cons_not_nil : (step : Step) (more : List Step) → step ∷ more ≡ [] → ⊥
+cons_not_nil step more h = absurd cc
 
 told-left : (op : Operator) (beat : RegionBeat) (stores : List StoreEntry) (now : ℕ) → Kept op beat → (left : List Step) → drop (passed_by op beat) op.steps ≡ left → Told op beat stores now (with_left left op beat stores now)
 told-left op beat stores now kept [] here = (kept, none-left beat (drop op.passed op.steps) (sym (left-behind op beat) ∙ here))
 told-left op beat stores now kept (step ∷ more) here =
-    told-late op beat stores now _ kept op.state refl (told-sent op beat stores now step more kept here (gate_of step beat stores now) refl)
+    told-late op beat stores now _ kept (λ none. absurd (cons_not_nil step more (sym here ∙ none))) op.state refl (told-sent op beat stores now step more kept here (gate_of step beat stores now) refl)
 
 told-astray : (op : Operator) (beat : RegionBeat) (stores : List StoreEntry) (now : ℕ) (b : Bool) → is_astray (passed_by op beat) op beat ≡ b → Told op beat stores now (cond b (dispatch.Ended Canceled) (with_left (drop (passed_by op beat) op.steps) op beat stores now))
 told-astray op beat stores now true astray = ltb-true _ _ astray

@@ -1,5 +1,5 @@
 -- What the answer to a heartbeat tells of the region's operator: the third column of the table of its life.
-use Rattle.std.specs.Prelude.{◌≡◌, ℕ, ◌-◌, ◌<◌, ◌≤◌, false, List, [], ◌∷◌, take, drop, IsTrue, All, Some, Err}
+use Rattle.std.specs.Prelude.{◌≡◌, ◌≢◌, ℕ, ◌-◌, ◌<◌, ◌≤◌, false, List, [], ◌∷◌, take, drop, IsTrue, All, Some, Err}
 use Rattle.pd_types.specs.declared.region.RegionBeat.{RegionBeat}
 use Rattle.pd_types.specs.declared.step.Step.{Step}
 use Rattle.store_table.specs.declared.entry.StoreEntry.{StoreEntry}
@@ -17,6 +17,10 @@ use Rattle.op_control.specs.Turn.{conf_changes, passed_by}
 -- the heartbeat leaves no step unfinished, from the current one on
 abbrev pub LeavesNone : Operator → RegionBeat → Type 0
 LeavesNone op beat = All (λ (step : Step). IsTrue (is_finished step beat)) (drop op.passed op.steps)
+
+-- the heartbeat leaves a step
+abbrev pub LeavesSome : Operator → RegionBeat → Type 0
+LeavesSome op beat = drop (passed_by op beat) op.steps ≢ []
 
 -- the first step that the heartbeat leaves unfinished
 abbrev pub IsNextStep : Step → List Step → RegionBeat → Type 0
@@ -49,8 +53,8 @@ Told op beat stores now (dispatch.Send step) = Kept op beat × IsInTime op now �
 Told op beat stores now (dispatch.Wait held) = Kept op beat × IsInTime op now × IsHeld held op beat stores now
 Told op beat stores now dispatch.Done = Kept op beat × LeavesNone op beat
 Told op beat stores now (dispatch.Ended Canceled) = Grew op beat
-Told op beat stores now (dispatch.Ended Expired) = Kept op beat × (op.state ≡ Created) × (EXPIRED_MS < now - op.created)
-Told op beat stores now (dispatch.Ended Timeout) = Kept op beat × (op.state ≡ Started) × (TIMEOUT_MS < now - op.started)
+Told op beat stores now (dispatch.Ended Expired) = Kept op beat × LeavesSome op beat × (op.state ≡ Created) × (EXPIRED_MS < now - op.created)
+Told op beat stores now (dispatch.Ended Timeout) = Kept op beat × LeavesSome op beat × (op.state ≡ Started) × (TIMEOUT_MS < now - op.started)
 Told op beat stores now (dispatch.Ended _) = ⊥
 
 -- the same of the region's operator

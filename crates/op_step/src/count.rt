@@ -21,6 +21,7 @@ impl Votes {
     pub fn are_majority(&self) -> bool
         ensures { result ≡ nat_lt self.now.voters (2 * self.now.live) }
     {
+        // Halving the one in place of doubling the other, so that nothing wraps.
         self.voters / 2 < self.live
     }
 }

@@ -2,6 +2,7 @@
 #![tactic(auto)]
 
 mod count;
+mod laws;
 mod peers;
 mod regions;
 mod safety;
@@ -9,6 +10,9 @@ mod safety;
 mod tests;
 mod wishes;
 
+pub use laws::{
+    a_pending_learner_is_not_finished, a_transfer_changes_no_peer, two_majorities_meet,
+};
 pub use peers::{has_store, is_learner, is_target};
 pub use regions::{after, conf_change, finished};
 pub use safety::{Held, Why, gate};

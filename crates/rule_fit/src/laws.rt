@@ -1,5 +1,14 @@
-ghost use Rattle.std.specs.Prelude.{Bool, ◌≡◌, ℕ, List, length};
+ghost use Rattle.std.specs.Prelude.{Bool, ◌≡◌, ◌≢◌, ◌↔◌, ℕ, List, [], ◌∷◌, length, true, false, not, Contains};
 ghost use Rattle.pd_types.specs.declared.region.Peer.{Peer};
+ghost use Rattle.pd_types.specs.declared.region.Role.{Role};
+ghost use Rattle.pd_types.specs.declared.region.Role.TheVariants.{Voter, Learner};
+ghost use Rattle.pd_types.specs.declared.rule.Op.TheVariants as ops;
+ghost use Rattle.pd_types.specs.declared.rule.Rule.{Rule};
+ghost use Rattle.pd_types.specs.declared.rule.RuleRole.TheVariants as asks;
+ghost use Rattle.store_table.specs.declared.entry.StoreEntry.{StoreEntry};
+ghost use Rattle.store_table.specs.Entries.{is_usable};
+ghost use Rattle.rule_fit.specs.Isolation.{differ_in, score_beside};
+ghost use Rattle.rule_fit.specs.Suits.{is_among, passes, peer_suits, role_suits};
 ghost use Rattle.rule_fit.specs.Assignment.{Fits};
 ghost use Rattle.rule_fit.specs.Certificate.{Certifies, IsMisfitNumber};
 ghost use Rattle.rule_fit.specs.declared.answer.Certificate.{Certificate};
@@ -14,4 +23,42 @@ pub fn one_misfit_number()
     ensures one { (test : ℕ → ℕ → Bool) (peers : ℕ) (counts : List ℕ) (m n : ℕ) → IsMisfitNumber test peers counts m → IsMisfitNumber test peers counts n → m ≡ n }
     ensures zero_fits { (test : ℕ → ℕ → Bool) (peers : ℕ) (counts : List ℕ) (n : ℕ) → IsMisfitNumber test peers counts n → n ≡ 0 → Fits test peers counts }
     ensures fits_zero { (test : ℕ → ℕ → Bool) (peers : ℕ) (counts : List ℕ) (n : ℕ) → IsMisfitNumber test peers counts n → Fits test peers counts → n ≡ 0 }
+{}
+
+/// What the four operators ask of a label's value, of which the empty one stands for none.
+pub fn notin_is_the_opposite_of_in()
+    ensures some { (value : List ℕ) (values : List (List ℕ)) →
+        (passes ops.Exists value values ≡ true) ↔ (value ≢ []) }
+    ensures none { (value : List ℕ) (values : List (List ℕ)) →
+        passes ops.NotExists value values ≡ not (passes ops.Exists value values) }
+    ensures absent { (values : List (List ℕ)) → passes ops.In [] values ≡ false }
+    ensures listed { (value : List ℕ) (values : List (List ℕ)) → value ≢ [] →
+        passes ops.In value values ≡ is_among value values }
+    ensures others { (value : List ℕ) (values : List (List ℕ)) →
+        passes ops.NotIn value values ≡ not (passes ops.In value values) }
+{}
+
+/// What a rule's role asks of a peer's, and that a peer on a store that isn't usable suits no rule.
+pub fn a_follower_is_a_voter_that_does_not_lead()
+    ensures voter { (role : Role) (leads : Bool) →
+        (role_suits asks.Voter role leads ≡ true) ↔ (role ≡ Voter) }
+    ensures leader { (role : Role) (leads : Bool) →
+        (role_suits asks.Leader role leads ≡ true) ↔ (leads ≡ true) }
+    ensures follower { (role : Role) (leads : Bool) →
+        (role_suits asks.Follower role leads ≡ true) ↔ ((role ≡ Voter) × (leads ≡ false)) }
+    ensures learner { (role : Role) (leads : Bool) →
+        (role_suits asks.Learner role leads ≡ true) ↔ (role ≡ Learner) }
+    ensures silent { (leader now : ℕ) (stores : List StoreEntry) (peer : Peer) (rule : Rule) →
+        is_usable peer.store now stores ≡ false →
+        peer_suits leader stores now peer rule ≡ false }
+{}
+
+/// Of two labels the first weighs 100 times the second.
+pub fn the_first_label_weighs_most()
+    ensures first { (stores : List StoreEntry) (one other : ℕ) (label last : List ℕ) →
+        differ_in stores one other label ≡ true →
+        score_beside stores one other (label ∷ last ∷ []) ≡ 100 }
+    ensures second { (stores : List StoreEntry) (one other : ℕ) (label last : List ℕ) →
+        differ_in stores one other label ≡ false → differ_in stores one other last ≡ true →
+        score_beside stores one other (label ∷ last ∷ []) ≡ 1 }
 {}

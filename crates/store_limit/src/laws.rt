@@ -1,5 +1,8 @@
 ghost use Rattle.std.specs.Prelude.{◌≡◌, ℕ, ◌+◌, ◌-◌, ◌*◌, ◌≤◌, List};
-ghost use Rattle.store_limit.specs.Level.{Level, available_at, cap_of, charged, full_at};
+ghost use Rattle.store_limit.specs.Level.{Level, available_at, cap_of, charged, full_at, rated};
+ghost use Rattle.store_limit.specs.Limits.{level_of, with_level};
+ghost use Rattle.store_limit.specs.declared.bucket.Buckets.{Buckets};
+ghost use Rattle.store_limit.specs.declared.limits.LimitKind.TheVariants.{AddPeer, RemovePeer};
 ghost use Rattle.store_limit.specs.Charges.{AreLawful, count_between, latest, least_after, level_after};
 
 use crate::{MAX_RATE, PEER_UNITS, START_RATE};
@@ -34,6 +37,26 @@ pub fn a_peer_is_sixty_thousand_units()
         available_at level (level.moment + passed) ≡ level.content + level.rate * passed }
     ensures costs { (level : Level) (now : ℕ) → level.moment ≤ now → 60000 ≤ available_at level now →
         available_at (charged level now) now + 60000 ≡ available_at level now }
+{}
+
+/// A new rate gives nothing: a bucket holds no more than before, and no more than the rate's cap.
+pub fn a_new_rate_gives_nothing()
+    ensures kept { (level : Level) (rate now : ℕ) → level.moment ≤ now →
+        available_at (rated level rate now) now ≤ available_at level now }
+    ensures cut { (level : Level) (rate now : ℕ) →
+        available_at (rated level rate now) now ≤ rate * 60000 }
+{}
+
+/// The peers that a store gains and those that it loses are charged apart.
+pub fn the_two_kinds_are_apart()
+    ensures add { (level : Level) (buckets : Buckets) →
+        level_of AddPeer (with_level AddPeer level buckets) ≡ level }
+    ensures remove { (level : Level) (buckets : Buckets) →
+        level_of RemovePeer (with_level RemovePeer level buckets) ≡ level }
+    ensures lost { (level : Level) (buckets : Buckets) →
+        level_of RemovePeer (with_level AddPeer level buckets) ≡ level_of RemovePeer buckets }
+    ensures gained { (level : Level) (buckets : Buckets) →
+        level_of AddPeer (with_level RemovePeer level buckets) ≡ level_of AddPeer buckets }
 {}
 
 /// The numbers: the first rate is PD's, the others are our own.
