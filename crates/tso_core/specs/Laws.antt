@@ -19,7 +19,7 @@ use Rattle.tso_core.specs.declared.reply.Reply.{Reply}
 use Rattle.tso_core.specs.declared.reply.Reply.TheVariants.{Won, Moved, Got, Again, Heard, OutOfTurn, Claimed, Saved}
 use Rattle.tso_core.specs.Due.{due_for}
 use Rattle.tso_core.specs.Whole.{Whole, place_of_client, view_at}
-use Rattle.tso_core.specs.Steps.{Stepped, due_of, step_of, draw_of, out_of_turn}
+use Rattle.tso_core.specs.Steps.{Stepped, due_of, step_of, draw_of}
 use Rattle.tso_core.specs.Rows.{due_at, lead_of, tick_of, resigned_of, take_of}
 use Rattle.tso_core.specs.Notes.{tell_of, hear_of}
 use Rattle.tso_core.specs.Sound.{IsSound, HasDriver, HasClient}
@@ -92,12 +92,13 @@ IsInTurn reply = (due : Due) → ¬ (reply ≡ OutOfTurn due)
 
 -- A whole call of an actor that is at this due: out of turn exactly where that isn't rest; it names what is next then, and changes nothing
 pub record ComesAtRest (w : Whole) (due : Due) (r : Stepped) : Type 0 where
-  pub refused : due ≢ Rest → r ≡ out_of_turn w due
+  pub refused : due ≢ Rest → r ≡ record { reply = OutOfTurn due; after = w }
   pub made : due ≡ Rest → IsInTurn r.reply
 
 -- A step is out of turn exactly where its kind isn't the actor's next, and a whole call exactly where the actor isn't at rest; it names what is next then, and changes nothing
 pub record RefusesOutOfTurn (w : Whole) : Type 0 where
-  pub refused : (actor : Actor) (kind : Kind) → ¬ IsNext w actor kind → step_of w actor kind ≡ out_of_turn w (due_of w actor)
+  pub refused : (actor : Actor) (kind : Kind) → ¬ IsNext w actor kind
+      → step_of w actor kind ≡ record { reply = OutOfTurn (due_of w actor); after = w }
   pub made : (actor : Actor) (kind : Kind) → IsNext w actor kind → IsInTurn (step_of w actor kind).reply
   pub lead : (d now : ℕ) → ComesAtRest w (due_of w (Driver d)) (lead_of w d now)
   pub tick : (d now : ℕ) → ComesAtRest w (due_of w (Driver d)) (tick_of w d now)
