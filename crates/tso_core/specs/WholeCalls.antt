@@ -212,10 +212,11 @@ grantee w d n = record {
   seen = record { term = limit_of w d % 262144; last = cursor_of w d + n };
 }
 
--- the term and the end of the limit of the driver d
+-- the term of the driver's limit
 abbrev pub limit_term : Whole → ℕ → ℕ
 limit_term w d = limit_of w d % 262144
 
+-- the end of the driver's limit
 abbrev pub limit_end : Whole → ℕ → ℕ
 limit_end w d = limit_of w d / 262144
 
