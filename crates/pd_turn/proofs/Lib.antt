@@ -1,0 +1,5 @@
+pub mod Each
+pub mod Hands
+pub mod Items
+pub mod Laws
+pub mod Tickets
