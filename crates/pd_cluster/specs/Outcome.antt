@@ -4,7 +4,7 @@ use Rattle.std.specs.Fmt.{decimal}
 use Rattle.std.specs.Io.KnownBytes.{Appends, Consumes, IsAtEnd, Keeps}
 use Rattle.pd_lines.specs.Input.{TakesFew}
 use Rattle.pd_lines.specs.Output.{WritesPrefix}
-use Rattle.pd_types.specs.Timestamp.{physical, logical}
+use Rattle.pd_types.specs.Timestamp.{timestamp, physical, logical}
 use Rattle.tso_core.specs.Laws.{AreBounded}
 use Rattle.pd_script.specs.Numbering.{reason_number}
 use Rattle.pd_script.specs.Scripts.{script_of}
@@ -39,6 +39,10 @@ limit_bytes = record { status = Limit; text = codes "limit bytes 16777217\n" }
 -- the answer of `tso`: both parts of the timestamp
 abbrev pub tso_outcome : ℕ → Outcome
 tso_outcome timestamp = record { status = Done; text = codes "physical " ++ decimal (physical timestamp) ++ codes " logical " ++ decimal (logical timestamp) ++ codes "\n" }
+
+-- the text tells the parts of which the timestamp is made
+abbrev pub TellsParts : ℕ → List ℕ → Type 0
+TellsParts n text = (p l : ℕ) → l < 262144 → n ≡ timestamp p l → text ≡ codes "physical " ++ decimal p ++ codes " logical " ++ decimal l ++ codes "\n"
 
 -- the word for what there is too much of
 abbrev pub limited_text : Limited → List ℕ

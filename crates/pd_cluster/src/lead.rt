@@ -1,7 +1,7 @@
 ghost use Rattle.std.specs.Prelude.{◌≡◌, ◌↔◌, ℕ, None, Some};
 ghost use Rattle.pd_types.specs.declared.request.Request.TheVariants.{Retire, Term};
 ghost use Rattle.tso_core.specs.declared.reply.Reply.TheVariants.{Probed, Published};
-ghost use Rattle.pd_cluster.specs.Terms.{BeginsTerm, EndsTerm};
+ghost use Rattle.pd_cluster.specs.Terms.{BeginsTerm, EndsTerm, ReadBegins, WinAsks};
 ghost use Rattle.pd_cluster.specs.Answers.{driver_in};
 ghost use Rattle.pd_cluster.specs.Replay.{asked_besides, lead_after, moment_of, published_term, with_term};
 
@@ -52,6 +52,7 @@ fn with_term(term: u64, lead: Option<BegunLead>) -> Option<BegunLead>
 /// How far the lead is after an answer to a line at this moment.
 pub fn lead_after(act: &Act, reply: Reply, lead: Option<BegunLead>) -> Option<BegunLead>
     ensures value { result ≡ lead_after act.now reply lead }
+    ensures read { ReadBegins act.now reply result }
     ensures probed { (cursor : ℕ) → reply ≡ Probed cursor → result ≡ None }
     ensures published { (hi : ℕ) → reply ≡ Published hi → result ≡ None }
 {
@@ -88,6 +89,7 @@ fn published_term(hi: u64, lead: Option<BegunLead>) -> Option<Request>
 pub fn asked_besides(act: &Act, reply: Reply, lead: Option<BegunLead>) -> Option<Request>
     ensures value { result ≡ asked_besides act.now reply lead }
     ensures ends { (result ≡ Some Retire) ↔ EndsTerm reply }
+    ensures won { WinAsks act.now reply result }
     ensures begins { (term moment : ℕ) → result ≡ Some (Term term moment) → BeginsTerm act.now reply lead term moment }
 {
     match reply {

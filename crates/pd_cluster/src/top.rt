@@ -2,7 +2,7 @@
 ghost use Rattle.std.specs.Prelude.{◌≡◌, ◌≢◌, ◌≤◌, IfOk, IfNone, IfSome, IsErrOf, length, map, string_bytes};
 ghost use Rattle.std.specs.Io.KnownBytes.{Keeps};
 ghost use Rattle.pd_cluster.specs.Command.{command_of};
-ghost use Rattle.pd_cluster.specs.Outcome.{Asks, Ends, IsHeadline, IsUnread, Leaves, Outcome, limit_bytes, limited_text, refusal_outcome, script_outcome, tso_outcome, usage};
+ghost use Rattle.pd_cluster.specs.Outcome.{Asks, TellsParts, Ends, IsHeadline, IsUnread, Leaves, Outcome, limit_bytes, limited_text, refusal_outcome, script_outcome, tso_outcome, usage};
 ghost use Rattle.pd_cluster.specs.Response.{Gives, HasEndCause, HasFailureCause, IsFinal, Responds};
 ghost use Rattle.pd_cluster.specs.declared.command.Command.TheVariants.{Replay};
 ghost use Rattle.pd_cluster.specs.declared.status.Status.TheVariants.{ReadFault, WriteFault};
@@ -60,7 +60,8 @@ fn limit_response(alloc: Global) -> Result<Response, AllocError>
 
 // The response to `tso`.
 fn tso_response(alloc: Global, timestamp: u64) -> Result<Response, AllocError>
-    ensures { IfOk result (Gives (tso_outcome timestamp)) }
+    ensures gives { IfOk result (Gives (tso_outcome timestamp)) }
+    ensures told { IfOk result (λ r. TellsParts timestamp (string_bytes r.text)) }
 {
     let (physical, logical) = unpack(timestamp);
     let text = format!(in alloc; "physical {physical} logical {logical}\n")?;
