@@ -3,9 +3,11 @@
 
 mod counts;
 mod intake;
+mod laws;
 mod standing;
 #[cfg(test)]
 mod tests;
 
 pub use intake::Intake;
+pub use laws::{a_region_counts_by_its_peers, the_first_reason_is_answered};
 pub use standing::Standing;

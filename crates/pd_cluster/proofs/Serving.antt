@@ -7,7 +7,7 @@ use Rattle.std.proofs.lemmas.List.{get_or-map, get_or-set_same, get_or-set_other
 use Rattle.std.proofs.lemmas.List.Elements.{All-push, All-set}
 use Rattle.pd_types.specs.declared.oracle.Actor.{Actor}
 use Rattle.pd_types.specs.declared.request.Request.{Request}
-use Rattle.pd_state.specs.Clusters.{ClusterValue, Served, cluster_value, entry_of}
+use Rattle.pd_state.specs.Clusters.{ClusterValue, Served, cluster_value}
 use Rattle.pd_state.specs.Legal.{first_reply}
 use Rattle.pd_state.specs.State.{part_after}
 use Rattle.pd_state.specs.declared.entry.Entry.{Entry}
@@ -24,15 +24,16 @@ use Rattle.pd_cluster.specs.Answers.{driver_in, opening_cell}
 use Rattle.pd_script.specs.Scripts.{asker}
 use Rattle.pd_cluster.specs.Replay.{State, act_step, asked_besides, lead_after, lead_at, oracle_line, past_at, served, start, with_besides, with_served}
 
-module _ (old new : ClusterValue) (actor : Actor) (line : ℕ) (request : Request) (reply : Reply) (s : Served old new actor line request reply) where
-  its_entry : s.entry ≡ entry_of actor line request reply
-  its_entry = λ i. record { actor = s.actor_is i; line = s.line_is i; request = s.request_is i; reply = s.reply_is i }
+-- an entry, by its parts
+entry_of : Actor → ℕ → Request → Reply → Entry
+entry_of actor line request reply = record { actor = actor; line = line; request = request; reply = reply }
 
+module _ (old new : ClusterValue) (actor : Actor) (line : ℕ) (request : Request) (reply : Reply) (s : Served old new actor line request reply) where
   its_past : past_of new ≡ entry_of actor line request reply ∷ past_of old
-  its_past = ap reverse s.appended ∙ reverse-append old.entries (s.entry ∷ []) ∙ ap (λ (e : Entry). e ∷ past_of old) its_entry
+  its_past = ap reverse s.appended ∙ reverse-append old.entries (entry_of actor line request reply ∷ [])
 
   its_reply : reply ≡ first_reply (part_after (past_of old)) request
-  its_reply = sym s.reply_is ∙ s.legal.reply_is ∙ ap (λ (r : Request). first_reply (part_after (past_of old)) r) s.request_is
+  its_reply = s.legal.reply_is
 
 module _ (items : List ClusterValue) (d : ℕ) (c new : ClusterValue) (line : ℕ) (request : Request) (reply : Reply) (within : d < length items) (s : Served (get_or items d c) new (asker d request) line request reply) where
   here : past_at (journals_of items) d ≡ past_of (get_or items d c)

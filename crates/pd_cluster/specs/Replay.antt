@@ -18,7 +18,6 @@ use Rattle.tso_core.specs.declared.reply.Kind.TheVariants.{Read as ToRead, Campa
 use Rattle.tso_core.specs.declared.reply.Reply.{Reply}
 use Rattle.tso_core.specs.declared.reply.Reply.TheVariants.{Won, Lost, Resigned, Nothing, CellRead, Claimed, Probed, Published}
 use Rattle.pd_state.specs.declared.entry.Entry.{Entry}
-use Rattle.pd_state.specs.Clusters.{entry_of}
 use Rattle.pd_state.specs.Legal.{first_reply}
 use Rattle.pd_state.specs.State.{part_after}
 use Rattle.pd_script.specs.Scripts.{asker}
@@ -95,7 +94,12 @@ past_at journals driver = get_or journals driver []
 
 -- the entry of a request to a driver's cluster: its reply is the first that applies over the entries before it
 abbrev pub served : List (List Entry) → ℕ → ℕ → Request → Entry
-served journals driver number request = entry_of (asker driver request) number request (first_reply (part_after (past_at journals driver)) request)
+served journals driver number request = record {
+  actor = asker driver request;
+  line = number;
+  request = request;
+  reply = first_reply (part_after (past_at journals driver)) request;
+}
 
 -- the journals with that entry
 abbrev pub with_served : List (List Entry) → ℕ → ℕ → Request → List (List Entry)

@@ -2,3 +2,5 @@ pub mod Rows
 pub mod Refines
 pub mod Places
 pub mod Ranged
+pub mod KnownLemmas
+pub mod Moments

@@ -12,7 +12,7 @@ use Rattle.pd_types.specs.declared.request.Request.{Request}
 use Rattle.pd_types.specs.declared.request.Request.TheVariants as ask
 use Rattle.region_tree.specs.Ranges.{HasRange}
 use Rattle.region_tree.specs.Standing.{IsTable, table_of}
-use Rattle.region_tree.proofs.Stand.{every_table}
+use Rattle.region_tree.proofs.Stand.{checked_range, every_table}
 use Rattle.heartbeat.specs.Intakes.{intake_of, intake_by}
 use Rattle.pd_state.specs.declared.entry.Entry.{Entry}
 use Rattle.pd_state.specs.declared.reply.Reply.{Reply}
@@ -20,29 +20,14 @@ use Rattle.pd_state.specs.declared.reply.Reply.TheVariants as replies
 use Rattle.pd_state.specs.Since.{since_by, since}
 use Rattle.pd_state.specs.State.{accepted_by, beats_of, part_of}
 use Rattle.pd_state.specs.Legal.{beat_reply, first_reply, IsLegal}
-use Rattle.pd_state.specs.Clusters.{entry_of}
-
-next_none : (t : Bool) (x : BeatFault) (o : Option BeatFault) → cond t (Some x) o ≡ None → (t ≡ false) × (o ≡ None)
-next_none true x o h = absurd cc
-next_none false x o h = (refl, h)
-
-range_of : (beat : RegionBeat) → first_fault beat ≡ None → HasRange beat
-range_of beat h =
-    let a = next_none (fails beat NoPeers) NoPeers _ h in
-    let b = next_none (fails beat TooManyPeers) TooManyPeers _ a.1 in
-    let c = next_none (fails beat DoublePeer) DoublePeer _ b.1 in
-    let d = next_none (fails beat DoubleStore) DoubleStore _ c.1 in
-    let e = next_none (fails beat LeaderAbsent) LeaderAbsent _ d.1 in
-    let f = next_none (fails beat LeaderNotVoter) LeaderNotVoter _ e.1 in
-    let g = next_none (fails beat BadRange) BadRange _ f.1 in
-    g.0
+use Rattle.pd_state.proofs.Refines.{entry_of}
 
 checked_by : (o : Option BeatFault) (removed : ℕ) (beat : RegionBeat) (held : List RegionBeat) → replies.Accepted removed ≡ beat_reply (intake_by o beat held) → o ≡ None
 checked_by None removed beat held h = refl
 checked_by (Some fault) removed beat held h = absurd cc
 
 ranged_beat : (bs : List RegionBeat) (beat : RegionBeat) (p : Reply) → p ≡ beat_reply (intake_of beat (table_of bs)) → All HasRange bs → All HasRange (accepted_by p beat bs)
-ranged_beat bs beat (replies.Accepted removed) is ranged = All-cons HasRange beat bs (range_of beat (checked_by (first_fault beat) removed beat (table_of bs) is)) ranged
+ranged_beat bs beat (replies.Accepted removed) is ranged = All-cons HasRange beat bs (checked_range beat (checked_by (first_fault beat) removed beat (table_of bs) is)) ranged
 ranged_beat bs beat p is ranged = ranged
 
 abbrev AreRanged : List Entry → Type 0

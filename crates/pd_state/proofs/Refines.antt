@@ -28,9 +28,13 @@ use Rattle.pd_state.specs.declared.reply.Reply.TheVariants as replies
 use Rattle.pd_state.specs.Since.{begun, since_by, since}
 use Rattle.pd_state.specs.State.{moment_of, clock_of, term_of, began_of, accepted_by, beats_by, beats_of, heard, heartbeat, greeting, record_at, kept_state, with_record, greeted_by, records_of, store_of, part_of, part_after}
 use Rattle.pd_state.specs.Legal.{hello_reply, alive_reply, beat_reply, begin_reply, term_reply, first_reply, IsLegalAfter, IsLegal}
-use Rattle.pd_state.specs.Clusters.{entry_of, is_refused_beat, SameTables}
-use Rattle.pd_state.specs.Steps.{greeted, put_after, heard_after, beat_after, changed_part, new_part, stepped}
+use Rattle.pd_state.specs.Clusters.{is_refused, with_clock}
+use Rattle.pd_state.specs.Steps.{greeted, put_after, heard_after, beat_after, changed_part, new_part, begun_part, stepped}
 use Rattle.pd_state.proofs.Rows.{entry_map, placed_map, unknown_before, found_id}
+
+-- an entry, by its parts
+abbrev pub entry_of : Actor → ℕ → Request → Reply → Entry
+entry_of actor line request reply = record { actor = actor; line = line; request = request; reply = reply }
 
 -- a store that isn't known sent no heartbeat
 abbrev pub Silent : List Entry → Type 0
@@ -138,10 +142,13 @@ after_term actor line term moment =
     ap (λ (c : ℕ). let p : Part = record { term = term; began = moment; clock = c; stores = []; standing = [] } in p) e
 
 refines_by : (s : Option (List Entry)) (actor : Actor) (line : ℕ) (r : Request) → ((es : List Entry) → s ≡ Some es → Silent es)
-    → stepped (option_map part_of s) r ≡ option_map part_of (since_by r (entry_of actor line r (first_reply (option_map part_of s) r)) s)
+    → stepped (option_map part_of s) r (first_reply (option_map part_of s) r) ≡ option_map part_of (since_by r (entry_of actor line r (first_reply (option_map part_of s) r)) s)
 refines_by None actor line (ask.Term term moment) silent = ap Some (after_term actor line term moment)
 refines_by (Some es) actor line (ask.Term term moment) silent = ap Some (after_term actor line term moment)
-refines_by None actor line r silent = refl
+refines_by None actor line ask.Retire silent = refl
+refines_by None actor line (ask.Hello store moment address labels) silent = refl
+refines_by None actor line (ask.Alive store moment) silent = refl
+refines_by None actor line (ask.Beat store moment beat) silent = refl
 refines_by (Some es) actor line ask.Retire silent = refl
 refines_by (Some es) actor line (ask.Hello store moment address labels) silent =
     ap Some (after_hello es actor line store moment address labels (term_reply (part_of es) (ask.Hello store moment address labels)) (silent es refl))
@@ -149,9 +156,9 @@ refines_by (Some es) actor line (ask.Alive store moment) silent = ap Some (after
 refines_by (Some es) actor line (ask.Beat store moment beat) silent = ap Some (after_beat es actor line store moment beat (term_reply (part_of es) (ask.Beat store moment beat)))
 
 pub refines : (driver : ℕ) (past : List Entry) (e : Entry) → ((es : List Entry) → since past ≡ Some es → Silent es) → IsLegalAfter driver past e
-    → stepped (part_after past) e.request ≡ part_after (e ∷ past)
+    → stepped (part_after past) e.request e.reply ≡ part_after (e ∷ past)
 refines driver past e silent legal =
-    subst (λ (p : Reply). stepped (part_after past) e.request ≡ option_map part_of (since_by e.request (entry_of e.actor e.line e.request p) (since past))) (sym legal.reply_is)
+    subst (λ (p : Reply). stepped (part_after past) e.request p ≡ option_map part_of (since_by e.request (entry_of e.actor e.line e.request p) (since past))) (sym legal.reply_is)
     (refines_by (since past) e.actor e.line e.request silent)
 
 -- silence, over one entry more
@@ -200,52 +207,47 @@ pub silent_after : (driver : ℕ) (past : List Entry) → IsLegal driver past �
 silent_after driver [] legal es h = absurd cc
 silent_after driver (e ∷ past) legal es h = silent_more (since past) e.actor e.line e.request e.reply (silent_after driver past legal.1) legal.0.reply_is es h
 
--- a refused region heartbeat leaves stores and regions
-hello_no_beat : (o : Option StoreState) (n : ℕ) → is_refused_beat (hello_reply o n) ≡ false
-hello_no_beat (Some Up) n = refl
-hello_no_beat (Some Offline) n = refl
-hello_no_beat (Some Tombstone) n = refl
-hello_no_beat None n = by (nat_le 256 n)
+-- a refused request leaves all but the clock
+no_put : (p : Reply) (e : StoreEntry) (es : List StoreEntry) → is_refused p ≡ true → put_after p e es ≡ es
+no_put replies.StorePut e es h = absurd cc
+no_put p e es h = refl
+
+no_heard : (p : Reply) (store moment : ℕ) (es : List StoreEntry) → is_refused p ≡ true → heard_after p store moment es ≡ es
+no_heard replies.Alive store moment es h = absurd cc
+no_heard p store moment es h = refl
+
+no_beat : (p : Reply) (beat : RegionBeat) (held : List RegionBeat) → is_refused p ≡ true → beat_after p beat held ≡ held
+no_beat (replies.Accepted removed) beat held h = absurd cc
+no_beat p beat held h = refl
+
+leaves_by : (old : Option Part) (r : Request) (p : Reply) → p ≡ first_reply old r → is_refused p ≡ true → stepped old r p ≡ with_clock r old
+leaves_by old (ask.Term term moment) p is h = absurd (let both : is_refused (begin_reply term) ≡ true = subst (λ (q : Reply). is_refused q ≡ true) (is ∙ begins old term moment) h in cc)
   where
-    by : (t : Bool) → is_refused_beat (cond t replies.Limit replies.StorePut) ≡ false
-    by true = refl
-    by false = refl
-
-alive_no_beat : (o : Option StoreState) → is_refused_beat (alive_reply o) ≡ false
-alive_no_beat (Some Up) = refl
-alive_no_beat (Some Offline) = refl
-alive_no_beat (Some Tombstone) = refl
-alive_no_beat None = refl
-
-no_beat : {P : Type 0} (b : Bool) → b ≡ false → b ≡ true → P
-no_beat b refused accepted = absurd cc
-
-beat_leaves : (part : Part) (store moment : ℕ) (beat : RegionBeat) (intake : Intake) → is_refused_beat (beat_reply intake) ≡ true → SameTables (Some part) (Some (changed_part part (ask.Beat store moment beat) (beat_reply intake)))
-beat_leaves part store moment beat (intakes.Accepted removed) h = absurd cc
-beat_leaves part store moment beat (intakes.Bad fault) h = record { stores_are = refl; regions_are = refl }
-beat_leaves part store moment beat (intakes.Stale kept) h = record { stores_are = refl; regions_are = refl }
-beat_leaves part store moment beat intakes.Full h = record { stores_are = refl; regions_are = refl }
-
-pub leaves_by : (old : Option Part) (r : Request) → is_refused_beat (first_reply old r) ≡ true → SameTables old (stepped old r)
-leaves_by None (ask.Term term moment) h = absurd cc
-leaves_by None r h = absurd cc
-leaves_by (Some part) (ask.Term term moment) h = absurd cc
-leaves_by (Some part) ask.Retire h = absurd cc
-leaves_by (Some part) (ask.Hello store moment address labels) h = no_beat _ (hello_no_beat (state_at store part.stores) (length part.stores)) h
-leaves_by (Some part) (ask.Alive store moment) h = no_beat _ (alive_no_beat (state_at store part.stores)) h
-leaves_by (Some part) (ask.Beat store moment beat) h = beat_leaves part store moment beat (intake_of beat part.standing) h
+    begins : (old : Option Part) (term moment : ℕ) → first_reply old (ask.Term term moment) ≡ begin_reply term
+    begins None term moment = refl
+    begins (Some part) term moment = refl
+leaves_by None ask.Retire p is h = refl
+leaves_by (Some part) ask.Retire p is h = absurd (let both : is_refused replies.Retired ≡ true = subst (λ (q : Reply). is_refused q ≡ true) is h in cc)
+leaves_by None (ask.Hello store moment address labels) p is h = refl
+leaves_by None (ask.Alive store moment) p is h = refl
+leaves_by None (ask.Beat store moment beat) p is h = refl
+leaves_by (Some part) (ask.Hello store moment address labels) p is h =
+    ap (λ (es : List StoreEntry). Some (record part { clock = max part.clock moment; stores = es })) (no_put p _ part.stores h)
+leaves_by (Some part) (ask.Alive store moment) p is h =
+    ap (λ (es : List StoreEntry). Some (record part { clock = max part.clock moment; stores = es })) (no_heard p store moment part.stores h)
+leaves_by (Some part) (ask.Beat store moment beat) p is h =
+    ap (λ (held : List RegionBeat). Some (record part { clock = max part.clock moment; standing = held })) (no_beat p beat part.standing h)
 
 -- the journal that serve leaves
 pub served : (driver : ℕ) (entries after : List Entry) (e : Entry) (old new : Option Part) → after ≡ entries ++ e ∷ [] → IsLegal driver (reverse entries) → old ≡ part_after (reverse entries)
-    → e.reply ≡ first_reply old e.request → new ≡ stepped old e.request
+    → e.reply ≡ first_reply old e.request → new ≡ stepped old e.request e.reply
     → (IsLegal driver (reverse after) × (new ≡ part_after (reverse after))) × IsLegalAfter driver (reverse entries) e
 served driver entries after e old new is legal holds reply_is steps =
     let here : IsLegalAfter driver (reverse entries) e = record { reply_is = reply_is ∙ ap (λ (o : Option Part). first_reply o e.request) holds } in
     let back : reverse after ≡ e ∷ reverse entries = ap reverse is ∙ reverse-append entries (e ∷ []) in
-    let now : new ≡ part_after (e ∷ reverse entries) = steps ∙ ap (λ (o : Option Part). stepped o e.request) holds ∙ refines driver (reverse entries) e (silent_after driver (reverse entries) legal) here in
+    let now : new ≡ part_after (e ∷ reverse entries) = steps ∙ ap (λ (o : Option Part). stepped o e.request e.reply) holds ∙ refines driver (reverse entries) e (silent_after driver (reverse entries) legal) here in
     let both : IsLegal driver (e ∷ reverse entries) × (new ≡ part_after (e ∷ reverse entries)) = ((here, legal), now) in
     (subst (λ (l : List Entry). IsLegal driver l × (new ≡ part_after l)) (sym back) both, here)
 
-pub leaves : (old new : Option Part) (r : Request) (p : Reply) → p ≡ first_reply old r → new ≡ stepped old r → is_refused_beat p ≡ true → SameTables old new
-leaves old new r p reply_is steps h =
-    subst (SameTables old) (sym steps) (leaves_by old r (subst (λ (q : Reply). is_refused_beat q ≡ true) reply_is h))
+pub leaves : (old new : Option Part) (r : Request) (p : Reply) → p ≡ first_reply old r → new ≡ stepped old r p → is_refused p ≡ true → new ≡ with_clock r old
+leaves old new r p reply_is steps h = steps ∙ leaves_by old r p reply_is h

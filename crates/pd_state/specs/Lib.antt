@@ -4,3 +4,4 @@ pub mod State
 pub mod Legal
 pub mod Clusters
 pub mod Steps
+pub mod Known

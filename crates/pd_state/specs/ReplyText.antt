@@ -1,21 +1,9 @@
 -- The text of each answer of a cluster (own choice; the texts of a region heartbeat end in what was dispatched, which is `none` without operators).
 use Rattle.std.specs.Prelude.{ℕ, List, ◌++◌, codes}
 use Rattle.std.specs.Fmt.{decimal}
-use Rattle.pd_types.specs.declared.beat.BeatFault.{BeatFault}
-use Rattle.pd_types.specs.declared.beat.BeatFault.TheVariants as faults
+use Rattle.pd_types.specs.BeatCheck.{fault_number}
 use Rattle.pd_state.specs.declared.reply.Reply.{Reply}
 use Rattle.pd_state.specs.declared.reply.Reply.TheVariants as replies
-
--- the place of the test in the order of tests, from 1
-abbrev pub fault_number : BeatFault → ℕ
-fault_number faults.NoPeers = 1
-fault_number faults.TooManyPeers = 2
-fault_number faults.DoublePeer = 3
-fault_number faults.DoubleStore = 4
-fault_number faults.LeaderAbsent = 5
-fault_number faults.LeaderNotVoter = 6
-fault_number faults.BadRange = 7
-fault_number faults.LongKey = 8
 
 -- the words of the answer, and its numbers in decimal
 abbrev pub reply_text : Reply → List ℕ

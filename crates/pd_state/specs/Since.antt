@@ -15,7 +15,9 @@ begun _ entry = None
 abbrev pub since_by : Request → Entry → Option (List Entry) → Option (List Entry)
 since_by (ask.Term term moment) entry part = begun entry.reply entry
 since_by ask.Retire entry part = None
-since_by _ entry part = option_map (λ entries. entry ∷ entries) part
+since_by (ask.Hello store moment address labels) entry part = option_map (λ entries. entry ∷ entries) part
+since_by (ask.Alive store moment) entry part = option_map (λ entries. entry ∷ entries) part
+since_by (ask.Beat store moment beat) entry part = option_map (λ entries. entry ∷ entries) part
 
 -- the term part: the entries from the last Term on, where that one was accepted and no Retire came later
 abbrev pub since : List Entry → Option (List Entry)

@@ -12,7 +12,6 @@ use Rattle.pd_state.specs.declared.part.Part.{Part}
 use Rattle.pd_state.specs.declared.reply.Reply.{Reply}
 use Rattle.pd_state.specs.declared.reply.Reply.TheVariants as replies
 use Rattle.pd_state.specs.State.{moment_of, greeting}
-use Rattle.pd_state.specs.Legal.{term_reply}
 
 -- a store that says hello: a new one's term began with that of its cluster
 abbrev pub greeted : Option StoreEntry → StoreRec → ℕ → ℕ → StoreEntry
@@ -60,9 +59,14 @@ changed_part part request reply = record {
 abbrev pub new_part : ℕ → ℕ → Part
 new_part term moment = record { term = term; began = moment; clock = moment; stores = []; standing = [] }
 
--- the tables after a request
-abbrev pub stepped : Option Part → Request → Option Part
-stepped part (ask.Term term moment) = Some (new_part term moment)
-stepped part ask.Retire = None
-stepped None _ = None
-stepped (Some part) request = Some (changed_part part request (term_reply part request))
+-- the tables after a Term with this reply
+abbrev pub begun_part : Reply → ℕ → Option Part
+begun_part (replies.Term term stores rules) moment = Some (new_part term moment)
+begun_part _ moment = None
+
+-- the tables after a request with this reply
+abbrev pub stepped : Option Part → Request → Reply → Option Part
+stepped part (ask.Term term moment) reply = begun_part reply moment
+stepped part ask.Retire reply = None
+stepped None request reply = None
+stepped (Some part) request reply = Some (changed_part part request reply)

@@ -1,5 +1,5 @@
 // A cluster, which serves one request after another.
-ghost use Rattle.std.specs.Prelude.{◌≡◌, [], false, None, IfOk, OnErr, option_copied, reverse};
+ghost use Rattle.std.specs.Prelude.{◌≡◌, [], false, true, None, IfOk, OnErr, option_copied, reverse};
 ghost use Rattle.pd_state.specs.Clusters.{cluster_value, Died, Replays, Served};
 ghost use Rattle.pd_state.specs.Legal.{IsLegal};
 
@@ -80,10 +80,14 @@ impl Cluster {
         &self.entries
     }
 
-    /// The tables of the term; none without a term.
+    /// The tables of the term; none without a term, and none after want of memory.
     pub fn part(&self) -> Option<&Part>
         ensures value { self.now.dead ≡ false → option_copied result ≡ self.now.part }
+        ensures ended { self.now.dead ≡ true → option_copied result ≡ None }
     {
+        if self.dead {
+            return None;
+        }
         self.part.as_ref()
     }
 }

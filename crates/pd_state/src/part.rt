@@ -18,7 +18,7 @@ pub struct Part {
 impl Part {
     /// The clock with a request at this moment: an earlier one changes nothing.
     pub(crate) fn advance(&mut self, moment: u64)
-        ensures { self.new ≡ record self.old { clock = max self.old.clock moment } }
+        ensures value { self.new ≡ record self.old { clock = max self.old.clock moment } }
     {
         self.clock = self.clock.max(moment);
     }

@@ -1,5 +1,6 @@
 ghost use Rattle.std.specs.Prelude.{◌≡◌, Some};
-ghost use Rattle.pd_state.specs.ReplyText.{fault_number, reply_text};
+ghost use Rattle.pd_types.specs.BeatCheck.{fault_number};
+ghost use Rattle.pd_state.specs.ReplyText.{reply_text};
 
 use pd_types::{BeatFault, Epoch};
 use std::fmt;

@@ -1,5 +1,5 @@
 // What a request makes of the tables.
-ghost use Rattle.std.specs.Prelude.{◌≡◌, IfOk, OnOk};
+ghost use Rattle.std.specs.Prelude.{◌≡◌, IfOk};
 ghost use Rattle.pd_state.specs.Legal.{first_reply, term_reply};
 ghost use Rattle.pd_state.specs.State.{greeting};
 ghost use Rattle.pd_state.specs.Steps.{changed_part, stepped};
@@ -10,6 +10,38 @@ use heartbeat::{Intake, Standing};
 use pd_types::{Duplicate, Labels, NoMemory, RegionBeat, Request, StoreRec, StoreState, Text};
 use std::alloc::Global;
 use store_table::Stores;
+
+// Begins a term, without stores and with the default rule.
+fn begin(alloc: Global, part: &mut Option<Part>, term: u64, moment: u64) -> Reply
+    ensures reply { result ≡ first_reply part.old (Request.Term term moment) }
+    ensures after { part.new ≡ stepped part.old (Request.Term term moment) result }
+{
+    *part = Some(Part {
+        term,
+        began: moment,
+        clock: moment,
+        stores: Stores::new(alloc),
+        standing: Standing::new(alloc),
+    });
+    Reply::Term {
+        term,
+        stores: 0,
+        rules: 1,
+    }
+}
+
+// Gives the term up, where there is one.
+fn retire(part: &mut Option<Part>) -> Reply
+    ensures reply { result ≡ first_reply part.old Request.Retire }
+    ensures after { part.new ≡ stepped part.old Request.Retire result }
+{
+    let reply = match part {
+        Some(_) => Reply::Retired,
+        None => Reply::NotLeading,
+    };
+    *part = None;
+    reply
+}
 
 // The record of a store that says hello.
 fn greeting(
@@ -76,41 +108,31 @@ fn beat(
 /// Serves one request over the tables. After want of memory nothing is said of them.
 pub fn step(alloc: Global, part: &mut Option<Part>, request: &Request) -> Result<Reply, NoMemory>
     ensures reply { IfOk result (λ reply. reply ≡ first_reply part.old request.now) }
-    ensures after { OnOk result (part.new ≡ stepped part.old request.now) }
+    ensures after { IfOk result (λ reply. part.new ≡ stepped part.old request.now reply) }
 {
-    if let Request::Term { term, moment } = request {
-        *part = Some(Part {
-            term: *term,
-            began: *moment,
-            clock: *moment,
-            stores: Stores::new(alloc),
-            standing: Standing::new(alloc),
-        });
-        return Ok(Reply::Term {
-            term: *term,
-            stores: 0,
-            rules: 1,
-        });
-    }
-    let Some(held) = part else {
-        return Ok(Reply::NotLeading);
-    };
     match request {
+        Request::Term { term, moment } => Ok(begin(alloc, part, *term, *moment)),
+        Request::Retire => Ok(retire(part)),
         Request::Hello {
             store,
             moment,
             address,
             labels,
-        } => hello(alloc, held, *store, *moment, address, labels),
-        Request::Alive { store, moment } => Ok(alive(held, *store, *moment)),
+        } => match part {
+            Some(held) => hello(alloc, held, *store, *moment, address, labels),
+            None => Ok(Reply::NotLeading),
+        },
+        Request::Alive { store, moment } => match part {
+            Some(held) => Ok(alive(held, *store, *moment)),
+            None => Ok(Reply::NotLeading),
+        },
         Request::Beat {
             store,
             moment,
             beat: heartbeat,
-        } => beat(alloc, held, *store, *moment, heartbeat),
-        _ => {
-            *part = None;
-            Ok(Reply::Retired)
-        }
+        } => match part {
+            Some(held) => beat(alloc, held, *store, *moment, heartbeat),
+            None => Ok(Reply::NotLeading),
+        },
     }
 }

@@ -41,7 +41,7 @@ fn take_in(stores: &mut Stores, rec: StoreRec, began: u64, moment: u64) -> Resul
 /// Takes in the record of a store that is Up, with a heartbeat; a known one keeps its state. The
 /// term of a new store began with that of its cluster, at `began`.
 pub fn greet(stores: &mut Stores, rec: StoreRec, began: u64, moment: u64) -> Result<Reply, NoMemory>
-    requires { rec.state ≡ states.Up }
+    requires up { rec.state ≡ states.Up }
     ensures reply { IfOk result (λ reply. reply ≡ hello_reply (state_at rec.id stores.old) (length stores.old)) }
     ensures after { IfOk result (λ reply. stores.new ≡ put_after reply (greeted (entry_at rec.id stores.old) rec began moment) stores.old) }
 {

@@ -8,3 +8,4 @@ pub mod Spots
 pub mod Puts
 pub mod Numbers
 pub mod Shift
+pub mod Lawful

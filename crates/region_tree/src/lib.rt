@@ -14,5 +14,8 @@ mod table;
 mod tests;
 
 pub use fault::RegionFault;
-pub use laws::{overlapping_ranges_share_a_key, what_stands_is_the_table};
+pub use laws::{
+    a_range_has_its_start_and_not_its_end, an_older_heartbeat_is_stale,
+    at_most_65536_regions_stand, overlapping_ranges_share_a_key, what_stands_is_the_table,
+};
 pub use table::{Displaced, MOST_REGIONS, Regions, Removed};

@@ -1,9 +1,9 @@
 use Rattle.std.proofs.Common.{◌≡◌, ◌++◌, ◌∷◌, [], List, Option, reverse, false, true, sym, ap, subst, refl, ◌∙◌}
-use Rattle.pd_state.specs.Clusters.{entry_of, is_refused_beat, SameTables}
+use Rattle.pd_state.specs.Clusters.{with_clock}
 use Rattle.pd_state.specs.Legal.{IsLegalAfter}
 use Rattle.pd_state.specs.declared.entry.Entry.{Entry}
 use Rattle.pd_state.specs.declared.part.Part.{Part}
-use Rattle.pd_state.proofs.Refines.{served, leaves}
+use Rattle.pd_state.proofs.Refines.{entry_of, served, leaves}
 use Rattle.pd_state.proofs.cluster.Cluster.serve.Goals as goal
 
 pub invariant_of-self-2 : goal.invariant_of-self-2
@@ -21,17 +21,12 @@ returns-clause-ok c =
     c.in_ok-push.ensures.ok
     c.self.invariant.0 (c.self.invariant.1 c.if-self.false) c.in_ok-reply.ensures.reply c.in_ok-reply.ensures.after in
     record {
-      entry = e;
       alive = sym (ap (λ v. v.dead) c.self.view_is) ∙ c.if-self.false;
       driver_is = ap (λ v. v.driver) c.self.view_is;
       appended = c.in_ok-push.ensures.ok ∙ ap (λ v. v.entries ++ e ∷ []) c.self.view_is;
       lives = refl;
       replays = s.0.1;
-      actor_is = refl;
-      line_is = refl;
-      request_is = refl;
-      reply_is = refl;
       legal = subst (λ v. IsLegalAfter v.driver (reverse v.entries) e) c.self.view_is s.1;
-      leaves = λ h. subst (λ v. SameTables v.part c.step.new.part) c.self.view_is
-          (leaves i.part c.step.new.part c.args.request c.in_ok-reply.reply c.in_ok-reply.ensures.reply c.in_ok-reply.ensures.after h);
+      leaves = λ h. leaves i.part c.step.new.part c.args.request c.in_ok-reply.reply c.in_ok-reply.ensures.reply c.in_ok-reply.ensures.after h
+          ∙ ap (λ v. with_clock c.args.request v.part) c.self.view_is;
     }
