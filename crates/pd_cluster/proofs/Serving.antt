@@ -25,7 +25,7 @@ use Rattle.pd_script.specs.Scripts.{asker}
 use Rattle.pd_cluster.specs.Replay.{State, act_step, asked_besides, lead_after, lead_at, oracle_line, past_at, served, start, with_besides, with_served}
 
 -- an entry, by its parts
-entry_of : Actor → ℕ → Request → Reply → Entry
+abbrev entry_of : Actor → ℕ → Request → Reply → Entry
 entry_of actor line request reply = record { actor = actor; line = line; request = request; reply = reply }
 
 module _ (old new : ClusterValue) (actor : Actor) (line : ℕ) (request : Request) (reply : Reply) (s : Served old new actor line request reply) where
