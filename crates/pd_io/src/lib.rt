@@ -9,7 +9,7 @@ mod sure;
 mod tests;
 mod traits;
 
-pub use laws::a_count_that_rose_is_above;
+pub use laws::{a_count_that_rose_is_above, calls_are_counted_from_one, each_failure_is_counted};
 pub use memory::{MemSink, MemSource};
 pub use standard::{StdSink, StdSource};
 pub use sure::{SureSink, SureSource};
