@@ -1,12 +1,14 @@
-ghost use Rattle.std.specs.Prelude.{◌≡◌, ◌+◌, ◌*◌, ◌<◌, ℕ, List, true, false};
+ghost use Rattle.std.specs.Prelude.{◌≡◌, ◌≢◌, ◌+◌, ◌*◌, ◌<◌, ℕ, List, true, false};
 ghost use Rattle.pd_types.specs.declared.region.Peer.{Peer};
 ghost use Rattle.pd_types.specs.declared.region.RegionBeat.{RegionBeat};
 ghost use Rattle.pd_types.specs.declared.step.Step.TheVariants as steps;
 ghost use Rattle.store_table.specs.declared.entry.StoreEntry.{StoreEntry};
+ghost use Rattle.store_table.specs.Entries.{is_live};
+ghost use Rattle.op_step.specs.Wishes.{may_lead};
 ghost use Rattle.op_step.specs.After.{conf_change, peers_after};
 ghost use Rattle.op_step.specs.Finished.{is_finished};
-ghost use Rattle.op_step.specs.Peers.{is_pending};
-ghost use Rattle.op_step.specs.Votes.{live_of, voters_of, HasMajority};
+ghost use Rattle.op_step.specs.Peers.{is_down, is_pending, is_target};
+ghost use Rattle.op_step.specs.Votes.{is_voter, live_of, voters_of, HasMajority};
 
 /// Two majorities of a region's voters are more than the voters, so that they have one in common;
 /// and one voter more than the half that is left out is enough.
@@ -33,4 +35,21 @@ pub fn a_transfer_changes_no_peer()
 pub fn a_pending_learner_is_not_finished()
     ensures { (id store : ℕ) (beat : RegionBeat) → is_pending beat id ≡ true →
         is_finished (steps.AddLearner id store) beat ≡ false }
+{}
+
+/// A peer that is down, that lacks parts of the log, or whose store is silent is no target, and so
+/// may not lead; nor may a learner or the leader itself.
+pub fn a_target_is_live_and_up_to_date()
+    ensures down { (beat : RegionBeat) (stores : List StoreEntry) (now : ℕ) (peer : Peer) →
+        is_down beat peer.id ≡ true → is_target beat stores now peer ≡ false }
+    ensures pending { (beat : RegionBeat) (stores : List StoreEntry) (now : ℕ) (peer : Peer) →
+        is_pending beat peer.id ≡ true → is_target beat stores now peer ≡ false }
+    ensures silent { (beat : RegionBeat) (stores : List StoreEntry) (now : ℕ) (peer : Peer) →
+        is_live peer.store now stores ≡ false → is_target beat stores now peer ≡ false }
+    ensures target { (beat : RegionBeat) (stores : List StoreEntry) (now : ℕ) (peer : Peer) →
+        may_lead beat stores now peer ≡ true → is_target beat stores now peer ≡ true }
+    ensures voter { (beat : RegionBeat) (stores : List StoreEntry) (now : ℕ) (peer : Peer) →
+        may_lead beat stores now peer ≡ true → is_voter peer ≡ true }
+    ensures other { (beat : RegionBeat) (stores : List StoreEntry) (now : ℕ) (peer : Peer) →
+        may_lead beat stores now peer ≡ true → peer.id ≢ beat.leader }
 {}
