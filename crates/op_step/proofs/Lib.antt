@@ -1,2 +1,3 @@
+pub mod CarriedLemmas
 pub mod CountLemmas
 pub mod NextLemmas

@@ -1,10 +1,14 @@
-ghost use Rattle.std.specs.Prelude.{◌≡◌, ◌≢◌, ◌+◌, ◌*◌, ◌<◌, ℕ, List, true, false};
+ghost use Rattle.std.specs.Prelude.{◌≡◌, ◌≢◌, ◌+◌, ◌*◌, ◌<◌, ℕ, List, Ok, true, false};
 ghost use Rattle.pd_types.specs.declared.region.Peer.{Peer};
 ghost use Rattle.pd_types.specs.declared.region.RegionBeat.{RegionBeat};
+ghost use Rattle.pd_types.specs.declared.region.Role.TheVariants.{Voter};
+ghost use Rattle.pd_types.specs.declared.step.Step.{Step};
 ghost use Rattle.pd_types.specs.declared.step.Step.TheVariants as steps;
 ghost use Rattle.store_table.specs.declared.entry.StoreEntry.{StoreEntry};
 ghost use Rattle.store_table.specs.Entries.{is_live};
-ghost use Rattle.op_step.specs.Wishes.{may_lead};
+ghost use Rattle.op_step.specs.declared.wishes.Wish.TheVariants as wish;
+ghost use Rattle.op_step.specs.Carried.{HasLeft, HasMoved, HasNew, IsLedFrom, MayTake, left_by};
+ghost use Rattle.op_step.specs.Wishes.{may_lead, plan_of};
 ghost use Rattle.op_step.specs.After.{conf_change, peers_after};
 ghost use Rattle.op_step.specs.Finished.{is_finished};
 ghost use Rattle.op_step.specs.Peers.{is_down, is_pending, is_target};
@@ -52,4 +56,28 @@ pub fn a_target_is_live_and_up_to_date()
         may_lead beat stores now peer ≡ true → is_voter peer ≡ true }
     ensures other { (beat : RegionBeat) (stores : List StoreEntry) (now : ℕ) (peer : Peer) →
         may_lead beat stores now peer ≡ true → peer.id ≢ beat.leader }
+{}
+
+/// What the steps of a wish leave, carried out one after the other on a region whose peers have ids
+/// and no two of which are on one store, where the new peer's id isn't in it: of AddPeer a voter on
+/// the store; of TransferLeader a leader there; of RemovePeer no peer there, another leader than the
+/// one that was there, and every other peer as it was; of MovePeer the same of the one store, and on
+/// the other a voter in a voter's place, or a learner in a learner's.
+pub fn a_wish_is_carried_out()
+    ensures adds { (store id now : ℕ) (beat : RegionBeat) (stores : List StoreEntry)
+        (list : List Step) → MayTake id beat →
+        plan_of (wish.AddPeer store) beat stores now ≡ Ok list →
+        HasNew id store Voter (left_by id list beat) }
+    ensures leads { (store id now : ℕ) (beat : RegionBeat) (stores : List StoreEntry)
+        (list : List Step) → MayTake id beat →
+        plan_of (wish.TransferLeader store) beat stores now ≡ Ok list →
+        IsLedFrom store (left_by id list beat) }
+    ensures leaves { (store id now : ℕ) (beat : RegionBeat) (stores : List StoreEntry)
+        (list : List Step) → MayTake id beat →
+        plan_of (wish.RemovePeer store) beat stores now ≡ Ok list →
+        HasLeft store beat (left_by id list beat) }
+    ensures moves { (from to id now : ℕ) (beat : RegionBeat) (stores : List StoreEntry)
+        (list : List Step) → MayTake id beat →
+        plan_of (wish.MovePeer from to) beat stores now ≡ Ok list →
+        HasMoved from to id beat (left_by id list beat) }
 {}
