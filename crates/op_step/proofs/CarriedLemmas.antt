@@ -24,27 +24,27 @@ use Rattle.op_step.specs.Carried.{HasLeft, HasMoved, HasNew, IsLedFrom, MayTake,
 use Rattle.op_step.proofs.NextLemmas.{next-is-least}
 
 -- tests on numbers
-same_number : (a : ℕ) → (a == a) ≡ true
+pub same_number : (a : ℕ) → (a == a) ≡ true
 same_number a = grind (arith, nat_tests)
 
-apart : (a b : ℕ) → a ≢ b → (a == b) ≡ false
+pub apart : (a b : ℕ) → a ≢ b → (a == b) ≡ false
 apart a b h = grind (arith, nat_tests)
 
-equal : (a b : ℕ) → (a == b) ≡ true → a ≡ b
+pub equal : (a b : ℕ) → (a == b) ≡ true → a ≡ b
 equal a b h = grind (arith, nat_tests)
 
-unequal : (a b : ℕ) → (a == b) ≡ false → a ≢ b
+pub unequal : (a b : ℕ) → (a == b) ≡ false → a ≢ b
 unequal a b h = grind (arith, nat_tests)
 
-both : (a b : Bool) → (a && b) ≡ true → (a ≡ true) × (b ≡ true)
+pub both : (a b : Bool) → (a && b) ≡ true → (a ≡ true) × (b ≡ true)
 both true b h = (refl, h)
 both false b h = absurd (cc)
 
-denied : (b : Bool) → not b ≡ true → b ≡ false
+pub denied : (b : Bool) → not b ≡ true → b ≡ false
 denied true h = absurd (cc)
 denied false h = refl
 
-votes : (role : Role) → (p : Peer) → p.role ≡ role → is_voter p ≡ true → p.role ≡ Voter
+pub votes : (role : Role) → (p : Peer) → p.role ≡ role → is_voter p ≡ true → p.role ≡ Voter
 votes Voter p is h = is
 votes Learner p is h = absurd (cc)
 votes Incoming p is h = absurd (cc)

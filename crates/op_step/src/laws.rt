@@ -1,17 +1,19 @@
-ghost use Rattle.std.specs.Prelude.{◌≡◌, ◌≢◌, ◌+◌, ◌*◌, ◌<◌, ℕ, List, Ok, true, false};
+ghost use Rattle.std.specs.Prelude.{◌≡◌, ◌≢◌, ◌+◌, ◌*◌, ◌<◌, ℕ, List, Some, Ok, Err, true, false, All, AllPairs, Any};
 ghost use Rattle.pd_types.specs.declared.region.Peer.{Peer};
 ghost use Rattle.pd_types.specs.declared.region.RegionBeat.{RegionBeat};
 ghost use Rattle.pd_types.specs.declared.region.Role.TheVariants.{Voter};
 ghost use Rattle.pd_types.specs.declared.step.Step.{Step};
 ghost use Rattle.pd_types.specs.declared.step.Step.TheVariants as steps;
 ghost use Rattle.store_table.specs.declared.entry.StoreEntry.{StoreEntry};
-ghost use Rattle.store_table.specs.Entries.{is_live};
+ghost use Rattle.store_table.specs.Entries.{is_live, is_usable};
 ghost use Rattle.op_step.specs.declared.wishes.Wish.TheVariants as wish;
+ghost use Rattle.op_step.specs.declared.wishes.BuildFault.TheVariants as faults;
 ghost use Rattle.op_step.specs.Carried.{HasLeft, HasMoved, HasNew, IsLedFrom, MayTake, left_by};
-ghost use Rattle.op_step.specs.Wishes.{may_lead, plan_of};
-ghost use Rattle.op_step.specs.After.{conf_change, peers_after};
+ghost use Rattle.op_step.specs.Wishes.{is_unknown, may_lead, plan_of};
+ghost use Rattle.op_step.specs.After.{after, conf_change, peers_after};
+ghost use Rattle.op_step.specs.Safe.{is_right, IsFitToLead, IsSafe};
 ghost use Rattle.op_step.specs.Finished.{is_finished};
-ghost use Rattle.op_step.specs.Peers.{is_down, is_pending, is_target};
+ghost use Rattle.op_step.specs.Peers.{has_peer, has_store, is_down, is_pending, is_target, peer_on};
 ghost use Rattle.op_step.specs.Votes.{is_voter, live_of, voters_of, HasMajority};
 
 /// Two majorities of a region's voters are more than the voters, so that they have one in common;
@@ -80,4 +82,66 @@ pub fn a_wish_is_carried_out()
         (list : List Step) → MayTake id beat →
         plan_of (wish.MovePeer from to) beat stores now ≡ Ok list →
         HasMoved from to id beat (left_by id list beat) }
+{}
+
+/// What a step leaves shows it as finished, and what lacks it doesn't: a promoted peer is a voter, a
+/// leader is on the store that it was to move to, and after a removal no peer is on the store.
+pub fn a_step_that_is_carried_out_is_finished()
+    ensures add { (id store now : ℕ) (beat : RegionBeat) (stores : List StoreEntry) →
+        is_right (steps.AddLearner id store) beat stores now ≡ true →
+        is_pending beat id ≡ false →
+        is_finished (steps.AddLearner id store) (after (steps.AddLearner id store) beat) ≡ true }
+    ensures promote { (id store : ℕ) (beat : RegionBeat) → has_peer id store beat ≡ true →
+        is_finished (steps.PromoteLearner id store)
+            (after (steps.PromoteLearner id store) beat) ≡ true }
+    ensures learner { (id store : ℕ) (beat : RegionBeat) →
+        All (λ (peer : Peer). peer.id ≡ id → peer.role ≢ Voter) beat.region.peers →
+        is_finished (steps.PromoteLearner id store) beat ≡ false }
+    ensures transfer { (id store : ℕ) (beat : RegionBeat) → has_peer id store beat ≡ true →
+        is_finished (steps.TransferLeader id store)
+            (after (steps.TransferLeader id store) beat) ≡ true }
+    ensures elsewhere { (id store : ℕ) (beat : RegionBeat) →
+        All (λ (peer : Peer). peer.id ≡ beat.leader → peer.store ≢ store) beat.region.peers →
+        is_finished (steps.TransferLeader id store) beat ≡ false }
+    ensures remove { (id store : ℕ) (beat : RegionBeat) →
+        AllPairs (λ (a b : Peer). a.store ≢ b.store) beat.region.peers →
+        has_peer id store beat ≡ true →
+        is_finished (steps.RemovePeer id store) (after (steps.RemovePeer id store) beat) ≡ true }
+    ensures there { (id store : ℕ) (beat : RegionBeat) → has_store store beat ≡ true →
+        is_finished (steps.RemovePeer id store) beat ≡ false }
+{}
+
+/// The leader isn't removed, and the next one is a voter on a live store, neither down nor pending.
+pub fn a_safe_step_keeps_a_leader()
+    ensures stays { (id store now : ℕ) (beat : RegionBeat) (stores : List StoreEntry) →
+        IsSafe (steps.RemovePeer id store) beat stores now → beat.leader ≢ id }
+    ensures fit { (id store now : ℕ) (beat : RegionBeat) (stores : List StoreEntry) →
+        IsSafe (steps.TransferLeader id store) beat stores now →
+        Any (IsFitToLead id store beat stores now) beat.region.peers }
+{}
+
+/// Of several faults the first is named: a store that isn't known, then one that isn't usable, then
+/// one that has a peer of the region; and a leader that is to lead is told so, voter or not.
+pub fn the_first_fault_is_named()
+    ensures unknown { (store now : ℕ) (beat : RegionBeat) (stores : List StoreEntry) →
+        is_unknown store stores ≡ true →
+        plan_of (wish.AddPeer store) beat stores now ≡ Err faults.UnknownStore }
+    ensures unusable { (store now : ℕ) (beat : RegionBeat) (stores : List StoreEntry) →
+        is_unknown store stores ≡ false → is_usable store now stores ≡ false →
+        plan_of (wish.AddPeer store) beat stores now ≡ Err faults.NotUsable }
+    ensures taken { (store now : ℕ) (beat : RegionBeat) (stores : List StoreEntry) →
+        is_unknown store stores ≡ false → is_usable store now stores ≡ true →
+        has_store store beat ≡ true →
+        plan_of (wish.AddPeer store) beat stores now ≡ Err faults.HasPeer }
+    ensures move_unusable { (from to now : ℕ) (beat : RegionBeat) (stores : List StoreEntry) →
+        is_unknown from stores ≡ false → is_unknown to stores ≡ false →
+        is_usable to now stores ≡ false →
+        plan_of (wish.MovePeer from to) beat stores now ≡ Err faults.NotUsable }
+    ensures move_taken { (from to now : ℕ) (beat : RegionBeat) (stores : List StoreEntry) →
+        is_unknown from stores ≡ false → is_unknown to stores ≡ false →
+        is_usable to now stores ≡ true → has_store to beat ≡ true →
+        plan_of (wish.MovePeer from to) beat stores now ≡ Err faults.HasPeer }
+    ensures leads { (store now : ℕ) (beat : RegionBeat) (stores : List StoreEntry) (peer : Peer) →
+        is_unknown store stores ≡ false → peer_on store beat ≡ Some peer → peer.id ≡ beat.leader →
+        plan_of (wish.TransferLeader store) beat stores now ≡ Err faults.IsLeader }
 {}
