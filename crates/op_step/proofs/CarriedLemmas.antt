@@ -20,7 +20,7 @@ use Rattle.op_step.specs.Votes.{is_voter}
 use Rattle.op_step.specs.After.{after, peers_after, promoted}
 use Rattle.op_step.specs.NextLeader.{IsNext}
 use Rattle.op_step.specs.Wishes.{Plan, is_unknown, given, step_with, may_lead, next_leader, lead_by, next_part, move_by, plan_of, remove_by, remove_leader}
-use Rattle.op_step.specs.Carried.{HasLeft, HasMoved, HasNew, IsLedFrom, MayTake, left_by}
+use Rattle.op_step.specs.Carried.{HasLeft, HasMoved, HasNew, IsLedFrom, IsThereFirst, MayTake, left_by}
 use Rattle.op_step.proofs.NextLemmas.{next-is-least}
 
 -- tests on numbers
@@ -327,3 +327,57 @@ moves from to id now beat stores list may h =
     let c = guard (not (is_usable to now stores)) faults.NotUsable _ list b.1 in
     let d = guard (has_store to beat) faults.HasPeer _ list c.1 in
     moves_from from to id now beat stores list (peer_on from beat) may d.0 refl d.1
+
+-- and the new peer is there before the moved one goes
+append_assoc_of : (ys zs xs : List Step) → xs ++ (ys ++ zs) ≡ (xs ++ ys) ++ zs
+append_assoc_of ys zs [] = refl
+append_assoc_of ys zs (x ∷ xs) = ap (λ l. x ∷ l) (append_assoc_of ys zs xs)
+
+shape_last : (b c : Bool) (o : Option Peer) (p : Peer) (to : ℕ) → moving b c o p to ≡ ((steps.AddLearner 0 to ∷ promotion b to) ++ lead_if c o to) ++ (steps.RemovePeer p.id p.store ∷ [])
+shape_last true true o p to = append_assoc_of (next_part o to) (steps.RemovePeer p.id p.store ∷ []) (steps.AddLearner 0 to ∷ steps.PromoteLearner 0 to ∷ [])
+shape_last true false o p to = refl
+shape_last false true o p to = append_assoc_of (next_part o to) (steps.RemovePeer p.id p.store ∷ []) (steps.AddLearner 0 to ∷ [])
+shape_last false false o p to = refl
+
+first_by : (from to id now : ℕ) (beat : RegionBeat) (stores : List StoreEntry) (p : Peer) (b c : Bool) → MayTake id beat → has_store to beat ≡ false → peer_on from beat ≡ Some p → is_voter p ≡ b → (p.id == beat.leader) ≡ c → IsThereFirst from to id beat (moving b c (next_leader beat stores now) p to)
+first_by from to id now beat stores p b c may free on vote lead =
+    let one : RegionBeat = left_by id (steps.AddLearner 0 to ∷ promotion b to) beat in
+    let two : RegionBeat = left_by id (lead_if c (next_leader beat stores now) to) one in
+    let before : List Step = (steps.AddLearner 0 to ∷ promotion b to) ++ lead_if c (next_leader beat stores now) to in
+    let at = held from p beat.region.peers on in
+    let first = only from p beat.region.peers may.stores on in
+    let ready = readies c id to now (role_for b) p beat one stores lead may at.0 (joins b id to beat may free) in
+    let there : left_by id before beat ≡ two = carried-append id (steps.AddLearner 0 to ∷ promotion b to) (lead_if c (next_leader beat stores now) to) beat in
+    let peers : (left_by id before beat).region.peers ≡ beat.region.peers ++ record { id = id; store = to; role = role_for b } ∷ [] = ap (λ (r : RegionBeat). r.region.peers) there ∙ ready.peers in
+    let new : HasNew id to (role_for b) (left_by id before beat) = subst (λ ps. Contains ps (record { id = id; store = to; role = role_for b })) (sym peers) (Contains-push beat.region.peers (record { id = id; store = to; role = role_for b })) in
+    record {
+      before = before;
+      gone = p.id;
+      last = shape_last b c (next_leader beat stores now) p to ∙ ap (λ s. before ++ (steps.RemovePeer p.id s ∷ [])) at.1;
+      voter = λ k d low here role. in_voters b vote new (sym (ap (λ (q : Peer). q.role) (first k d low here)) ∙ role);
+      learner = λ k d low here role. in_learners b vote new (sym (ap (λ (q : Peer). q.role) (first k d low here)) ∙ role);
+      kept = λ k d low. subst (λ ps. Contains ps (get_or beat.region.peers k d)) (sym peers) (Contains-append_left beat.region.peers (record { id = id; store = to; role = role_for b } ∷ []) (get_or beat.region.peers k d) (Contains-get_or beat.region.peers k d low));
+    }
+  where
+    in_voters : (b : Bool) → is_voter p ≡ b → HasNew id to (role_for b) (left_by id ((steps.AddLearner 0 to ∷ promotion b to) ++ lead_if c (next_leader beat stores now) to) beat) → p.role ≡ Voter → HasNew id to Voter (left_by id ((steps.AddLearner 0 to ∷ promotion b to) ++ lead_if c (next_leader beat stores now) to) beat)
+    in_voters true vote new role = new
+    in_voters false vote new role = absurd (cc)
+
+    in_learners : (b : Bool) → is_voter p ≡ b → HasNew id to (role_for b) (left_by id ((steps.AddLearner 0 to ∷ promotion b to) ++ lead_if c (next_leader beat stores now) to) beat) → p.role ≡ Learner → HasNew id to Learner (left_by id ((steps.AddLearner 0 to ∷ promotion b to) ++ lead_if c (next_leader beat stores now) to) beat)
+    in_learners true vote new role = absurd (cc)
+    in_learners false vote new role = new
+
+first_from : (from to id now : ℕ) (beat : RegionBeat) (stores : List StoreEntry) (list : List Step) (o : Option Peer) → MayTake id beat → has_store to beat ≡ false → peer_on from beat ≡ o → move_by o to beat stores now ≡ Ok list → IsThereFirst from to id beat list
+first_from from to id now beat stores list None may free on h = absurd (cc)
+first_from from to id now beat stores list (Some p) may free on h =
+    subst (IsThereFirst from to id beat)
+    (sym (shape (is_voter p) (p.id == beat.leader) (next_leader beat stores now) p to) ∙ one_list _ _ list refl h)
+    (first_by from to id now beat stores p (is_voter p) (p.id == beat.leader) may free on refl refl)
+
+pub comes_first : (from to id now : ℕ) (beat : RegionBeat) (stores : List StoreEntry) (list : List Step) → MayTake id beat → plan_of (wish.MovePeer from to) beat stores now ≡ Ok list → IsThereFirst from to id beat list
+comes_first from to id now beat stores list may h =
+    let a = guard (is_unknown from stores) faults.UnknownStore _ list h in
+    let b = guard (is_unknown to stores) faults.UnknownStore _ list a.1 in
+    let c = guard (not (is_usable to now stores)) faults.NotUsable _ list b.1 in
+    let d = guard (has_store to beat) faults.HasPeer _ list c.1 in
+    first_from from to id now beat stores list (peer_on from beat) may d.0 refl d.1

@@ -1,10 +1,11 @@
 -- What the steps of a wish leave, carried out one after the other (pd-ctl, `operator add`; PD documentation, "Scheduling").
-use Rattle.std.specs.Prelude.{◌≡◌, ◌≢◌, ℕ, List, map, fold, All, AllPairs, Any, Contains}
+use Rattle.std.specs.Prelude.{◌≡◌, ◌≢◌, ℕ, List, [], ◌∷◌, ◌++◌, map, fold, All, AllPairs, Any, Contains}
 use Rattle.pd_types.specs.declared.region.Role.{Role}
 use Rattle.pd_types.specs.declared.region.Role.TheVariants.{Voter, Learner}
 use Rattle.pd_types.specs.declared.region.Peer.{Peer}
 use Rattle.pd_types.specs.declared.region.RegionBeat.{RegionBeat}
 use Rattle.pd_types.specs.declared.step.Step.{Step}
+use Rattle.pd_types.specs.declared.step.Step.TheVariants as steps
 use Rattle.pd_types.specs.WellFormed.{Leads}
 use Rattle.op_step.specs.After.{after}
 use Rattle.op_step.specs.Wishes.{step_with}
@@ -38,3 +39,12 @@ pub record HasMoved (from to id : ℕ) (beat later : RegionBeat) : Type 0 where
   pub left : HasLeft from beat later
   pub voter : All (λ (peer : Peer). peer.store ≡ from → peer.role ≡ Voter → HasNew id to Voter later) beat.region.peers
   pub learner : All (λ (peer : Peer). peer.store ≡ from → peer.role ≡ Learner → HasNew id to Learner later) beat.region.peers
+
+-- the removal comes last; before it the new peer is there, in the moved one's role, and so is each peer that was there
+pub record IsThereFirst (from to id : ℕ) (beat : RegionBeat) (list : List Step) : Type 0 where
+  pub before : List Step
+  pub gone : ℕ
+  pub last : list ≡ before ++ steps.RemovePeer gone from ∷ []
+  pub voter : All (λ (peer : Peer). peer.store ≡ from → peer.role ≡ Voter → HasNew id to Voter (left_by id before beat)) beat.region.peers
+  pub learner : All (λ (peer : Peer). peer.store ≡ from → peer.role ≡ Learner → HasNew id to Learner (left_by id before beat)) beat.region.peers
+  pub kept : All (λ (peer : Peer). Contains (left_by id before beat).region.peers peer) beat.region.peers

@@ -8,7 +8,7 @@ ghost use Rattle.store_table.specs.declared.entry.StoreEntry.{StoreEntry};
 ghost use Rattle.store_table.specs.Entries.{is_live, is_usable};
 ghost use Rattle.op_step.specs.declared.wishes.Wish.TheVariants as wish;
 ghost use Rattle.op_step.specs.declared.wishes.BuildFault.TheVariants as faults;
-ghost use Rattle.op_step.specs.Carried.{HasLeft, HasMoved, HasNew, IsLedFrom, MayTake, left_by};
+ghost use Rattle.op_step.specs.Carried.{HasLeft, HasMoved, HasNew, IsLedFrom, IsThereFirst, MayTake, left_by};
 ghost use Rattle.op_step.specs.Wishes.{is_unknown, may_lead, plan_of};
 ghost use Rattle.op_step.specs.After.{after, conf_change, peers_after};
 ghost use Rattle.op_step.specs.Safe.{is_right, IsFitToLead, IsSafe};
@@ -93,13 +93,13 @@ pub fn a_step_that_is_carried_out_is_finished()
         is_finished (steps.AddLearner id store) (after (steps.AddLearner id store) beat) ≡ true }
     ensures promote { (id store : ℕ) (beat : RegionBeat) → has_peer id store beat ≡ true →
         is_finished (steps.PromoteLearner id store)
-            (after (steps.PromoteLearner id store) beat) ≡ true }
+        (after (steps.PromoteLearner id store) beat) ≡ true }
     ensures learner { (id store : ℕ) (beat : RegionBeat) →
         All (λ (peer : Peer). peer.id ≡ id → peer.role ≢ Voter) beat.region.peers →
         is_finished (steps.PromoteLearner id store) beat ≡ false }
     ensures transfer { (id store : ℕ) (beat : RegionBeat) → has_peer id store beat ≡ true →
         is_finished (steps.TransferLeader id store)
-            (after (steps.TransferLeader id store) beat) ≡ true }
+        (after (steps.TransferLeader id store) beat) ≡ true }
     ensures elsewhere { (id store : ℕ) (beat : RegionBeat) →
         All (λ (peer : Peer). peer.id ≡ beat.leader → peer.store ≢ store) beat.region.peers →
         is_finished (steps.TransferLeader id store) beat ≡ false }
@@ -144,4 +144,12 @@ pub fn the_first_fault_is_named()
     ensures leads { (store now : ℕ) (beat : RegionBeat) (stores : List StoreEntry) (peer : Peer) →
         is_unknown store stores ≡ false → peer_on store beat ≡ Some peer → peer.id ≡ beat.leader →
         plan_of (wish.TransferLeader store) beat stores now ≡ Err faults.IsLeader }
+{}
+
+/// In a move the new peer is there, in the moved one's role, before the moved one goes.
+pub fn the_new_peer_is_there_first()
+    ensures { (from to id now : ℕ) (beat : RegionBeat) (stores : List StoreEntry)
+        (list : List Step) → MayTake id beat →
+        plan_of (wish.MovePeer from to) beat stores now ≡ Ok list →
+        IsThereFirst from to id beat list }
 {}
