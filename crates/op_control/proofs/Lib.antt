@@ -7,3 +7,5 @@ pub mod LimitLemmas
 pub mod SendLemmas
 pub mod ToldLemmas
 pub mod IdLemmas
+pub mod RefusalLemmas
+pub mod StartLemmas

@@ -1,9 +1,20 @@
-ghost use Rattle.std.specs.Prelude.{◌≡◌, ℕ, Option};
+ghost use Rattle.std.specs.Prelude.{◌≡◌, ◌≢◌, ◌<◌, ◌≤◌, ℕ, List, [], ◌∷◌, length, Option, Some, None};
 ghost use Rattle.pd_types.specs.declared.region.RegionBeat.{RegionBeat};
-ghost use Rattle.store_limit.specs.Limits.{StoreLimits};
+ghost use Rattle.pd_types.specs.declared.step.Step.{Step};
+ghost use Rattle.pd_types.specs.declared.step.Step.TheVariants as steps;
+ghost use Rattle.store_table.specs.declared.entry.StoreEntry.{StoreEntry};
+ghost use Rattle.store_limit.specs.declared.limits.LimitKind.TheVariants as kinds;
+ghost use Rattle.store_limit.specs.declared.limits.Limited.{Limited};
+ghost use Rattle.store_limit.specs.Limits.{StoreLimits, taken};
 ghost use Rattle.op_control.specs.declared.operator.NewOp.{NewOp};
-ghost use Rattle.op_control.specs.Table.{Table};
-ghost use Rattle.op_control.specs.Adding.{refusal_of, with_new_id};
+ghost use Rattle.op_control.specs.declared.operator.Operator.{Operator};
+ghost use Rattle.op_control.specs.declared.operator.OpState.TheVariants.{Created, Started};
+ghost use Rattle.op_control.specs.declared.table.AddFault.TheVariants as faults;
+ghost use Rattle.op_control.specs.declared.turn.Dispatch.TheVariants as dispatch;
+ghost use Rattle.op_control.specs.Table.{Table, active_at};
+ghost use Rattle.op_control.specs.Turn.{answer_of, turned};
+ghost use Rattle.op_control.specs.Charging.{after_charges, first_refused};
+ghost use Rattle.op_control.specs.Adding.{added, refusal_of, with_new_id};
 
 use crate::{EXPIRED_MS, MOST_OPERATORS, TIMEOUT_MS};
 
@@ -19,4 +30,66 @@ pub fn an_id_changes_no_refusal()
     ensures { (table : Table) (op : NewOp) (id : ℕ) (kept : Option RegionBeat)
         (limits : StoreLimits) (now : ℕ) →
         refusal_of table (with_new_id op id) kept limits now ≡ refusal_of table op kept limits now }
+{}
+
+/// Of several reasons the first is named, with the numbers of what stands in the way: another epoch,
+/// then an operator of at least this priority, then a store's limit, then 1,024 operators, which
+/// don't matter to an operator that replaces one.
+pub fn the_first_refusal_is_named()
+    ensures moved { (table : Table) (op : NewOp) (beat : RegionBeat) (limits : StoreLimits)
+        (now : ℕ) → op.epoch ≢ beat.region.epoch →
+        refusal_of table op (Some beat) limits now ≡ Some (faults.EpochMoved beat.region.epoch) }
+    ensures busy { (table : Table) (op : NewOp) (active : Operator) (beat : RegionBeat)
+        (limits : StoreLimits) (now : ℕ) → op.epoch ≡ beat.region.epoch →
+        active_at table op.region ≡ Some active → op.priority ≤ active.priority →
+        refusal_of table op (Some beat) limits now ≡ Some (faults.Busy active.priority) }
+    ensures limited { (table : Table) (op : NewOp) (beat : RegionBeat) (limits : StoreLimits)
+        (now : ℕ) (limit : Limited) → op.epoch ≡ beat.region.epoch →
+        active_at table op.region ≡ None → first_refused op.steps limits now ≡ Some limit →
+        refusal_of table op (Some beat) limits now
+        ≡ Some (faults.Limited limit.available limit.needed) }
+    ensures full { (table : Table) (op : NewOp) (beat : RegionBeat) (limits : StoreLimits)
+        (now : ℕ) → op.epoch ≡ beat.region.epoch → active_at table op.region ≡ None →
+        first_refused op.steps limits now ≡ None → 1024 ≤ length table.busy →
+        refusal_of table op (Some beat) limits now ≡ Some faults.Limit }
+    ensures room { (table : Table) (op : NewOp) (beat : RegionBeat) (limits : StoreLimits)
+        (now : ℕ) → op.epoch ≡ beat.region.epoch → active_at table op.region ≡ None →
+        first_refused op.steps limits now ≡ None → length table.busy < 1024 →
+        refusal_of table op (Some beat) limits now ≡ None }
+    ensures replaces { (table : Table) (op : NewOp) (active : Operator) (beat : RegionBeat)
+        (limits : StoreLimits) (now : ℕ) → op.epoch ≡ beat.region.epoch →
+        active_at table op.region ≡ Some active → active.priority < op.priority →
+        first_refused op.steps limits now ≡ None →
+        refusal_of table op (Some beat) limits now ≡ None }
+{}
+
+/// No more than 1,024 regions have an operator.
+pub fn at_most_1024_regions_have_an_operator()
+    ensures { (table : Table) (op : NewOp) (kept : Option RegionBeat) (limits : StoreLimits)
+        (now : ℕ) → length table.busy ≤ 1024 → refusal_of table op kept limits now ≡ None →
+        length (added table op now).busy ≤ 1024 }
+{}
+
+/// The first Send is an operator's start, and no later heartbeat changes it.
+pub fn the_first_send_is_the_start()
+    ensures begins { (op : Operator) (beat : RegionBeat) (stores : List StoreEntry) (now : ℕ)
+        (step : Step) → op.state ≡ Created → answer_of op beat stores now ≡ dispatch.Send step →
+        (turned op beat stores now).started ≡ now }
+    ensures keeps { (op : Operator) (beat : RegionBeat) (stores : List StoreEntry) (now : ℕ) →
+        op.state ≡ Started → (turned op beat stores now).started ≡ op.started }
+{}
+
+/// A new peer is charged to its store's limit for new peers, one that leaves to the other, and no
+/// other step is charged.
+pub fn new_and_leaving_peers_are_charged()
+    ensures add { (limits : StoreLimits) (peer store now : ℕ) →
+        after_charges (steps.AddLearner peer store ∷ []) limits now
+        ≡ taken limits store kinds.AddPeer now }
+    ensures remove { (limits : StoreLimits) (peer store now : ℕ) →
+        after_charges (steps.RemovePeer peer store ∷ []) limits now
+        ≡ taken limits store kinds.RemovePeer now }
+    ensures promote { (limits : StoreLimits) (peer store now : ℕ) →
+        after_charges (steps.PromoteLearner peer store ∷ []) limits now ≡ limits }
+    ensures transfer { (limits : StoreLimits) (peer store now : ℕ) →
+        after_charges (steps.TransferLeader peer store ∷ []) limits now ≡ limits }
 {}

@@ -1,2 +1,4 @@
+pub mod CarriedLemmas
 pub mod CountLemmas
+pub mod FinishedLemmas
 pub mod NextLemmas

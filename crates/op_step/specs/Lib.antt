@@ -1,4 +1,5 @@
 pub mod After
+pub mod Carried
 pub mod Counts
 pub mod Finished
 pub mod NextLeader

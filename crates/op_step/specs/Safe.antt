@@ -1,6 +1,8 @@
 -- A safe step: it may be sent to the region's leader (own choice, for PD's checks before an operator's step).
-use Rattle.std.specs.Prelude.{ℕ, ◌*◌, nat_lt, Bool, ◌&&◌, ◌||◌, ◌==◌, not, List, if◌then◌else◌, IsTrue, Result, Ok, Err}
+use Rattle.std.specs.Prelude.{◌≡◌, ℕ, ◌*◌, nat_lt, Bool, true, false, ◌&&◌, ◌||◌, ◌==◌, not, List, if◌then◌else◌, IsTrue, Result, Ok, Err}
 use Rattle.std.specs.List.{list_any}
+use Rattle.pd_types.specs.declared.region.Peer.{Peer}
+use Rattle.pd_types.specs.declared.region.Role.TheVariants.{Voter}
 use Rattle.pd_types.specs.declared.region.RegionBeat.{RegionBeat}
 use Rattle.pd_types.specs.declared.step.Step.{Step}
 use Rattle.pd_types.specs.declared.step.Step.TheVariants.{AddLearner, PromoteLearner, TransferLeader, RemovePeer}
@@ -10,7 +12,7 @@ use Rattle.op_step.specs.declared.safety.Held.{Held}
 use Rattle.op_step.specs.declared.safety.Why.{Why}
 use Rattle.op_step.specs.declared.safety.Why.TheVariants as why
 use Rattle.pd_types.specs.Roles.{is_learner}
-use Rattle.op_step.specs.Peers.{has_id, has_peer, has_store, is_peer, is_pending, is_target}
+use Rattle.op_step.specs.Peers.{has_id, has_peer, has_store, is_down, is_peer, is_pending, is_target}
 use Rattle.op_step.specs.Votes.{is_voter, live_of, voters_of, HasMajority}
 use Rattle.op_step.specs.After.{after}
 
@@ -44,3 +46,12 @@ gate_of step beat stores now =
     if not (has_majority beat stores now) then Err (held_with beat stores now why.Before)
     else (if not (has_majority (after step beat) stores now) then Err (held_with (after step beat) stores now why.After)
     else (if not (is_right step beat stores now) then Err (held_with beat stores now why.Target) else Ok tt))
+
+-- the peer of this id on this store: a voter on a live store, neither down nor pending
+pub record IsFitToLead (id store : ℕ) (beat : RegionBeat) (stores : List StoreEntry) (now : ℕ) (peer : Peer) : Type 0 where
+  pub named : peer.id ≡ id
+  pub there : peer.store ≡ store
+  pub voter : peer.role ≡ Voter
+  pub live : is_live peer.store now stores ≡ true
+  pub up : is_down beat peer.id ≡ false
+  pub whole : is_pending beat peer.id ≡ false

@@ -11,7 +11,10 @@ mod tests;
 mod wishes;
 
 pub use laws::{
-    a_pending_learner_is_not_finished, a_transfer_changes_no_peer, two_majorities_meet,
+    a_pending_learner_is_not_finished, a_safe_step_keeps_a_leader,
+    a_step_that_is_carried_out_is_finished, a_target_is_live_and_up_to_date,
+    a_transfer_changes_no_peer, a_wish_is_carried_out, the_first_fault_is_named,
+    two_majorities_meet,
 };
 pub use peers::{has_store, is_learner, is_target};
 pub use regions::{after, conf_change, finished};

@@ -10,3 +10,4 @@ pub mod Regions
 pub mod LawLemmas
 pub mod IdLemmas
 pub mod PickLemmas
+pub mod ConstraintLemmas

@@ -1,14 +1,16 @@
-ghost use Rattle.std.specs.Prelude.{Bool, ◌≡◌, ◌≢◌, ◌↔◌, ℕ, List, [], ◌∷◌, length, true, false, not, Contains};
+ghost use Rattle.std.specs.Prelude.{Bool, ◌≡◌, ◌≢◌, ◌↔◌, ℕ, List, [], ◌∷◌, length, true, false, not, All, Contains};
 ghost use Rattle.pd_types.specs.declared.region.Peer.{Peer};
 ghost use Rattle.pd_types.specs.declared.region.Role.{Role};
 ghost use Rattle.pd_types.specs.declared.region.Role.TheVariants.{Voter, Learner};
+ghost use Rattle.pd_types.specs.declared.rule.Constraint.{Constraint};
 ghost use Rattle.pd_types.specs.declared.rule.Op.TheVariants as ops;
 ghost use Rattle.pd_types.specs.declared.rule.Rule.{Rule};
 ghost use Rattle.pd_types.specs.declared.rule.RuleRole.TheVariants as asks;
+ghost use Rattle.pd_types.specs.declared.store.Label.{Label};
 ghost use Rattle.store_table.specs.declared.entry.StoreEntry.{StoreEntry};
 ghost use Rattle.store_table.specs.Entries.{is_usable};
 ghost use Rattle.rule_fit.specs.Isolation.{differ_in, score_beside};
-ghost use Rattle.rule_fit.specs.Suits.{is_among, passes, peer_suits, role_suits};
+ghost use Rattle.rule_fit.specs.Suits.{is_among, passes, peer_suits, role_suits, satisfies, satisfies_all, value_of};
 ghost use Rattle.rule_fit.specs.Assignment.{Fits};
 ghost use Rattle.rule_fit.specs.Certificate.{Certifies, IsMisfitNumber};
 ghost use Rattle.rule_fit.specs.declared.answer.Certificate.{Certificate};
@@ -61,4 +63,15 @@ pub fn the_first_label_weighs_most()
     ensures second { (stores : List StoreEntry) (one other : ℕ) (label last : List ℕ) →
         differ_in stores one other label ≡ false → differ_in stores one other last ≡ true →
         score_beside stores one other (label ∷ last ∷ []) ≡ 1 }
+{}
+
+/// A store's labels satisfy a rule's constraints where they satisfy each of them; a label that the
+/// store lacks has the empty value.
+pub fn each_constraint_is_asked()
+    ensures fails { (labels : List Label) (list : List Constraint) (one : Constraint) →
+        Contains list one → satisfies labels one ≡ false → satisfies_all labels list ≡ false }
+    ensures all { (labels : List Label) (list : List Constraint) →
+        All (λ (one : Constraint). satisfies labels one ≡ true) list →
+        satisfies_all labels list ≡ true }
+    ensures absent { (key : List ℕ) → value_of key [] ≡ [] }
 {}
