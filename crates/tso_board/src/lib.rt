@@ -1,0 +1,14 @@
+//! The oracle on atomic words: a board that drivers and clients on threads of their own step on.
+#![tactic(auto)]
+
+mod board;
+mod note;
+mod numbers;
+mod pass;
+mod plays;
+mod seat;
+
+pub use board::Board;
+pub use note::Note;
+pub use pass::Pass;
+pub use seat::DriverSeat;
