@@ -6,3 +6,4 @@ pub mod Boards
 pub mod Seats
 pub mod Passes
 pub mod Notes
+pub mod Opened

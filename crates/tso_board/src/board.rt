@@ -1,6 +1,6 @@
 ghost use Rattle.std.specs.Prelude.{◌≡◌, ℕ, ◌+◌, ◌*◌, ◌≤◌, [], ◌∷◌, false, IfOk, List};
 ghost use Rattle.tso_model.specs.Ledger.{Gathered, HasAll};
-ghost use Rattle.tso_model.specs.Moves.{first_view, first_words, gave_client, gave_driver, joined, new_client, new_driver};
+ghost use Rattle.tso_model.specs.Moves.{blank, first_words, gave_client, gave_driver, joined, new_client, new_driver};
 ghost use Rattle.tso_model.specs.Sound.{IsSetup};
 ghost use Rattle.tso_model.specs.Steps.{AtRest};
 
@@ -10,17 +10,24 @@ use pd_types::LOGICAL;
 use std::alloc::{AllocError, Global};
 use tso_model::{Setup, View};
 
+/// The atomic words under the oracle's invariant.
+pub(crate) type Words = Table<(), View, Setup, OracleRule, Global>;
+
 /// The words of an oracle that many threads step on: the cell, and a limit and a cursor for each
 /// driver.
 #[derive(Drop)]
 pub struct Board {
-    pub(crate) table: Table<(), View, Setup, OracleRule, Global>,
+    pub(crate) table: Words,
+    /// The seat that gave all numbers and takes them back in the end.
+    pub(crate) base: Seat<(), View>,
     ghost sized: { table.shared.table_id.words ≡ 1 + 2 * table.shared.key.drivers },
     ghost no_slots: { table.shared.table_id.slots ≡ 0 },
+    ghost based: { base.table_id ≡ table.shared.table_id },
+    ghost gave_all: { base.me ≡ (blank table.shared.key.cell, []) },
 }
 
-// The words of a new oracle.
-fn first_words(alloc: Global, setup: Setup) -> Result<Vec<u64>, AllocError>
+/// The words of a new oracle.
+pub(crate) fn first_words(alloc: Global, setup: Setup) -> Result<Vec<u64>, AllocError>
     requires setup { IsSetup setup }
     ensures value { IfOk result (λ words. words.items ≡ first_words setup) }
 {
@@ -32,68 +39,58 @@ fn first_words(alloc: Global, setup: Setup) -> Result<Vec<u64>, AllocError>
     Ok(words)
 }
 
-impl Board {
-    /// A new board, and the seat of all numbers that aren't given yet.
-    pub(crate) fn new(alloc: Global, setup: Setup) -> Result<(Board, Seat<(), View>), AllocError>
-        requires setup { IsSetup setup }
-        ensures key { IfOk result (λ r. r.0.table.shared.key ≡ setup) }
-        ensures board { IfOk result (λ r. r.1.table_id ≡ r.0.table.shared.table_id) }
-        ensures base { IfOk result (λ r. r.1.me ≡ (first_view setup, [])) }
-    {
-        let words = first_words(alloc, setup)?;
-        let (table, seat) = Table::of_words(alloc, words.as_slice(), &setup)?;
-        Ok((Board { table }, seat))
-    }
+/// Splits the next driver off.
+pub(crate) fn split_driver(table: &Words, base: &mut Seat<(), View>) -> Seat<(), View>
+    requires board { base.old.table_id ≡ table.now.shared.table_id }
+    requires sized { table.now.shared.table_id.words ≡ 1 + 2 * table.now.shared.key.drivers }
+    requires live { base.old.me.0.spent ≡ false }
+    requires some { (d : ℕ) × (ds : List ℕ) × (base.old.me.0.give_drivers ≡ d ∷ ds) }
+    ensures board { base.new.table_id ≡ base.old.table_id }
+    ensures same_board { result.table_id ≡ table.now.shared.table_id }
+    ensures base { base.new.me ≡ (gave_driver base.old.me.0, base.old.me.1) }
+    ensures seat { result.me ≡ (new_driver base.old.me.0, []) }
+{
+    table.shared.split_seat::<NewDriver>(base)
+}
 
-    /// Splits the next driver off.
-    pub(crate) fn driver(&self, base: &mut Seat<(), View>) -> Seat<(), View>
-        requires board { base.old.table_id ≡ self.now.table.shared.table_id }
-        requires live { base.old.me.0.spent ≡ false }
-        requires some { (d : ℕ) × (ds : List ℕ) × (base.old.me.0.give_drivers ≡ d ∷ ds) }
-        ensures board { base.new.table_id ≡ base.old.table_id }
-        ensures same_board { result.table_id ≡ self.now.table.shared.table_id }
-        ensures base { base.new.me ≡ (gave_driver base.old.me.0, base.old.me.1) }
-        ensures seat { result.me ≡ (new_driver base.old.me.0, []) }
-    {
-        self.table.shared.split_seat::<NewDriver>(base)
-    }
+/// Splits the next client off, where a client's quota is left.
+pub(crate) fn split_client(table: &Words, base: &mut Seat<(), View>) -> Seat<(), View>
+    requires board { base.old.table_id ≡ table.now.shared.table_id }
+    requires sized { table.now.shared.table_id.words ≡ 1 + 2 * table.now.shared.key.drivers }
+    requires live { base.old.me.0.spent ≡ false }
+    requires some { (c : ℕ) × (cs : List ℕ) × (base.old.me.0.give_clients ≡ c ∷ cs) }
+    requires quota { 262144 ≤ base.old.me.0.quota }
+    requires armed { base.old.me.0.armed ≡ 0 }
+    ensures board { base.new.table_id ≡ base.old.table_id }
+    ensures same_board { result.table_id ≡ table.now.shared.table_id }
+    ensures base { base.new.me ≡ (gave_client base.old.me.0, base.old.me.1) }
+    ensures seat { result.me ≡ (new_client base.old.me.0, []) }
+{
+    table.shared.split_seat::<NewClient>(base)
+}
 
-    /// Splits the next client off, where a client's quota is left.
-    pub(crate) fn client(&self, base: &mut Seat<(), View>) -> Seat<(), View>
-        requires board { base.old.table_id ≡ self.now.table.shared.table_id }
-        requires live { base.old.me.0.spent ≡ false }
-        requires some { (c : ℕ) × (cs : List ℕ) × (base.old.me.0.give_clients ≡ c ∷ cs) }
-        requires quota { 262144 ≤ base.old.me.0.quota }
-        requires armed { base.old.me.0.armed ≡ 0 }
-        ensures board { base.new.table_id ≡ base.old.table_id }
-        ensures same_board { result.table_id ≡ self.now.table.shared.table_id }
-        ensures base { base.new.me ≡ (gave_client base.old.me.0, base.old.me.1) }
-        ensures seat { result.me ≡ (new_client base.old.me.0, []) }
-    {
-        self.table.shared.split_seat::<NewClient>(base)
-    }
+/// Takes a seat into the base.
+pub(crate) fn take_in(table: &Words, base: &mut Seat<(), View>, other: Seat<(), View>)
+    requires board { base.old.table_id ≡ table.now.shared.table_id }
+    requires sized { table.now.shared.table_id.words ≡ 1 + 2 * table.now.shared.key.drivers }
+    requires other { other.table_id ≡ table.now.shared.table_id }
+    requires empty { other.me.1 ≡ [] }
+    requires live { base.old.me.0.spent ≡ false }
+    requires other_live { other.me.0.spent ≡ false }
+    requires rest { AtRest base.old.me.0 }
+    ensures board { base.new.table_id ≡ base.old.table_id }
+    ensures view { base.new.me ≡ (joined base.old.me.0 other.me.0, base.old.me.1) }
+{
+    table.shared.join_seat::<Meets>(base, other);
+}
 
-    /// Takes a seat into the base.
-    pub(crate) fn take_in(&self, base: &mut Seat<(), View>, other: Seat<(), View>)
-        requires board { base.old.table_id ≡ self.now.table.shared.table_id }
-        requires other { other.table_id ≡ self.now.table.shared.table_id }
-        requires empty { other.me.1 ≡ [] }
-        requires live { base.old.me.0.spent ≡ false }
-        requires other_live { other.me.0.spent ≡ false }
-        requires rest { AtRest base.old.me.0 }
-        ensures board { base.new.table_id ≡ base.old.table_id }
-        ensures view { base.new.me ≡ (joined base.old.me.0 other.me.0, base.old.me.1) }
-    {
-        self.table.shared.join_seat::<Meets>(base, other);
-    }
-
-    /// Ends the board: a base that took in all numbers has the entries of the whole run.
-    pub(crate) fn close(self, base: Seat<(), View>)
-        requires board { base.table_id ≡ self.table.shared.table_id }
-        requires empty { base.me.1 ≡ [] }
-        requires all { HasAll self.table.shared.key base.me.0 }
-        ensures gathered { Gathered self.table.shared.key base.me.0 }
-    {
-        self.table.close_with(base).free();
-    }
+/// Ends the words: a base that took in all numbers has the entries of the whole run.
+pub(crate) fn close(table: Words, base: Seat<(), View>)
+    requires board { base.table_id ≡ table.shared.table_id }
+    requires empty { base.me.1 ≡ [] }
+    requires slots { table.shared.table_id.slots ≡ 0 }
+    requires all { HasAll table.shared.key base.me.0 }
+    ensures gathered { Gathered table.shared.key base.me.0 }
+{
+    table.close_with(base).free();
 }

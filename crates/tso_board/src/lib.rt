@@ -4,11 +4,13 @@
 mod board;
 mod note;
 mod numbers;
+mod opening;
 mod pass;
 mod plays;
 mod seat;
 
 pub use board::Board;
 pub use note::Note;
+pub use opening::{Crew, open};
 pub use pass::Pass;
 pub use seat::DriverSeat;

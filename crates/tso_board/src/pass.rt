@@ -10,6 +10,7 @@ use crate::plays::{Arms, Count, Draws, Looks, Meets, Notes};
 use crate::{Board, Note};
 use atomic_table::Seat;
 use pd_types::{Batch, NoMemory, Seen};
+use std::alloc::Global;
 use std::marker::Brand;
 use tso_model::{Grant, Limit, View};
 
@@ -38,11 +39,29 @@ pub struct Pass {
 }
 
 impl Pass {
+    ghost use Rattle.tso_model.specs.Moves.{blank};
     ghost use Rattle.tso_model.specs.Steps.{AtRest, HasHand, looked};
     ghost use Rattle.tso_board.specs.Boards.{setup_of};
     ghost use Rattle.tso_board.specs.Notes.{IsNoteOf, note_seen};
     ghost use Rattle.tso_board.specs.Passes.{IsPassOf, pass_view, pass_spare};
     ghost use Rattle.tso_board.specs.Told.{Armed, Drawn, Met, NotArmed, NotDrawn};
+
+    /// The pass of a client that did nothing yet, with a client's quota.
+    pub(crate) fn new(alloc: Global, seat: Seat<(), View>, number: u8) -> Pass
+        requires view { seat.me ≡ (record (blank seat.me.0.opening) { client = number; quota = 262144 }, []) }
+        requires positive { 0 < number }
+        ensures view { pass_view result ≡ seat.me.0 }
+        ensures board { result.seat.table_id ≡ seat.table_id }
+    {
+        Pass {
+            seat,
+            number,
+            seen: Seen { term: 0, last: 0 },
+            hand: None,
+            armed: 0,
+            grants: Vec::new(alloc),
+        }
+    }
 
     /// Makes room for `n` more batches. This alone takes memory of all that a client calls.
     pub fn reserve(&mut self, n: usize) -> Result<(), NoMemory>

@@ -7,6 +7,7 @@ use crate::numbers::{lengthened, marks, packed, unpacked};
 use crate::plays::{Campaigns, Publishes, Raises, Reads, Resigns, Saves};
 use atomic_table::Seat;
 use pd_types::{CellWord, NoMemory, Window};
+use std::alloc::Global;
 use tso_model::{Claim, View};
 
 /// The seat of a driver: it makes the driver's steps on the board, and keeps what the driver knows.
@@ -36,9 +37,30 @@ pub struct DriverSeat {
 }
 
 impl DriverSeat {
+    ghost use Rattle.tso_model.specs.Moves.{blank};
     ghost use Rattle.tso_model.specs.Steps.{held, HasClaim, raised};
     ghost use Rattle.tso_board.specs.Seats.{IsSeatOf, seat_view, seat_spare};
-    ghost use Rattle.tso_board.specs.Told.{Claimed, MayPublish, Missed, Read, Saved, given_up, holding, told_limit};
+    ghost use Rattle.tso_board.specs.Told.{Claimed, IsCell, MayPublish, Missed, Read, Saved, given_up, holding, told_limit};
+
+    /// The seat of a driver that did nothing yet.
+    pub(crate) fn new(alloc: Global, seat: Seat<(), View>, number: u8, cell: CellWord) -> DriverSeat
+        requires view { seat.me ≡ (record (blank cell) { driver = number }, []) }
+        requires positive { 0 < number }
+        requires table { 2 * number < seat.table_id.words }
+        requires cell { IsCell cell }
+        ensures view { seat_view result ≡ record (blank cell) { driver = number } }
+        ensures board { result.seat.table_id ≡ seat.table_id }
+    {
+        DriverSeat {
+            seat,
+            number,
+            cell,
+            holds: false,
+            marked: false,
+            latest: None,
+            older: Vec::new(alloc),
+        }
+    }
 
     /// Makes room for `n` more claims. This alone takes memory of all that a driver calls.
     pub fn reserve(&mut self, n: usize) -> Result<(), NoMemory>

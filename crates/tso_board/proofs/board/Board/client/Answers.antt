@@ -1,6 +1,0 @@
-use Rattle.std.proofs.Common.{arith}
-use Rattle.tso_board.proofs.Allowed.{clients}
-use Rattle.tso_board.proofs.board.Board.client.Goals as goal
-
-pub split_seat-requires : goal.split_seat-requires
-split_seat-requires c = (c.requires.board, omega (arith, c.args.self.now.sized), clients _ _ _ c.requires.live c.requires.some (c.requires.quota, c.requires.armed))

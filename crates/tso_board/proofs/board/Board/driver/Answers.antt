@@ -1,6 +1,0 @@
-use Rattle.std.proofs.Common.{arith}
-use Rattle.tso_board.proofs.Allowed.{drivers}
-use Rattle.tso_board.proofs.board.Board.driver.Goals as goal
-
-pub split_seat-requires : goal.split_seat-requires
-split_seat-requires c = (c.requires.board, omega (arith, c.args.self.now.sized), drivers _ _ _ c.requires.live c.requires.some)
