@@ -1,5 +1,5 @@
 -- What each call tells its driver or client: the view after its one step, by the number that the step found, and what is known of that number. The steps are those of tso_model (Steps); that another cell names a later term is the rule of a guarded cell (PD keeps its saved timestamp under a guarded write of etcd).
-use Rattle.std.specs.Prelude.{◌≡◌, ℕ, ◌+◌, ◌*◌, ◌^◌, ◌<◌, ◌≤◌, Option, Some, None, cond, true, false, All}
+use Rattle.std.specs.Prelude.{◌≡◌, ℕ, ◌+◌, ◌^◌, ◌<◌, ◌≤◌, Option, Some, None, cond, true, false, All}
 use Rattle.pd_types.specs.declared.oracle.Batch.{Batch}
 use Rattle.pd_types.specs.declared.oracle.CellWord.{CellWord}
 use Rattle.pd_types.specs.declared.oracle.Seen.{Seen}
@@ -8,7 +8,7 @@ use Rattle.tso_model.specs.declared.entries.Claim.{Claim}
 use Rattle.tso_model.specs.declared.view.View.{View}
 use Rattle.tso_model.specs.Words.{passes, packed, IsOpen}
 use Rattle.tso_model.specs.History.{claims}
-use Rattle.tso_model.specs.Moves.{blank, greater, joined}
+use Rattle.tso_model.specs.Moves.{blank, joined}
 use Rattle.tso_model.specs.Steps.{held, hand, HasClaim, knows, claimed, saves, publishes, refused, adds, granted, batch_of}
 use Rattle.tso_model.specs.Sound.{IsUnseen}
 

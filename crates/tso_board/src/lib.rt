@@ -8,6 +8,8 @@ mod opening;
 mod pass;
 mod plays;
 mod seat;
+#[cfg(test)]
+mod tests;
 
 pub use board::Board;
 pub use note::Note;

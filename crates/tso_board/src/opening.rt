@@ -48,7 +48,12 @@ pub fn open(alloc: Global, drivers: u8, clients: u8, cell: CellWord) -> Result<C
 }
 
 // A seat for each driver. The base keeps the clients' numbers.
-fn driver_seats(alloc: Global, table: &Words, base: &mut Seat<(), View>, setup: Setup) -> Result<Vec<DriverSeat>, NoMemory>
+fn driver_seats(
+    alloc: Global,
+    table: &Words,
+    base: &mut Seat<(), View>,
+    setup: Setup,
+) -> Result<Vec<DriverSeat>, NoMemory>
     requires setup { IsSetup setup }
     requires key { table.now.shared.key ≡ setup }
     requires sized { table.now.shared.table_id.words ≡ 1 + 2 * setup.drivers }
@@ -68,7 +73,12 @@ fn driver_seats(alloc: Global, table: &Words, base: &mut Seat<(), View>, setup: 
 }
 
 // A pass for each client. The base has no number left.
-fn client_passes(alloc: Global, table: &Words, base: &mut Seat<(), View>, setup: Setup) -> Result<Vec<Pass>, NoMemory>
+fn client_passes(
+    alloc: Global,
+    table: &Words,
+    base: &mut Seat<(), View>,
+    setup: Setup,
+) -> Result<Vec<Pass>, NoMemory>
     requires setup { IsSetup setup }
     requires key { table.now.shared.key ≡ setup }
     requires sized { table.now.shared.table_id.words ≡ 1 + 2 * setup.drivers }

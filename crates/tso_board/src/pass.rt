@@ -172,30 +172,29 @@ impl Pass {
         let Some(limit) = self.hand else {
             unreachable!()
         };
-        let n = self.armed;
+        let count = self.armed;
         let word = 2 * limit.driver as usize;
         let at = board
             .table
             .shared
-            .fetch_add::<Draws>(&mut self.seat, word, n);
+            .fetch_add::<Draws>(&mut self.seat, word, count);
         self.hand = None;
         self.armed = 0;
-        if is_passing(at, limit.hi, n) {
+        if is_passing(at, limit.hi, count) {
             return Err(at);
         }
         let Limit { driver, term, .. } = limit;
-        let last = at + n;
+        let last = at + count;
         self.seen = Seen { term, last };
         let batch = Batch {
             term,
             driver,
             last,
-            count: n,
+            count,
         };
-        self.grants.push_reserved(Grant {
-            client: self.number,
-            batch,
-        });
+        let client = self.number;
+        let grant = Grant { client, batch };
+        self.grants.push_reserved(grant);
         Ok(batch)
     }
 }

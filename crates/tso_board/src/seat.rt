@@ -106,12 +106,12 @@ impl DriverSeat {
         ensures err { OnErr result (seat_spare self.new ≡ seat_spare self.old) }
     {
         let CellWord { saved, term } = self.cell;
-        let old = packed(saved, term);
+        let known = packed(saved, term);
         let found = board
             .table
             .shared
-            .compare_exchange::<Campaigns>(&mut self.seat, 0, old, old + 1);
-        if found != old {
+            .compare_exchange::<Campaigns>(&mut self.seat, 0, known, known + 1);
+        if found != known {
             self.cell = unpacked(found);
             return Err(self.cell);
         }
@@ -153,13 +153,13 @@ impl DriverSeat {
             unreachable!()
         };
         let Claim { window, at } = claim;
-        let old = packed(window.hi, window.term);
+        let held = packed(window.hi, window.term);
         let new = packed(hi, window.term);
         let found = board
             .table
             .shared
-            .compare_exchange::<Saves>(&mut self.seat, 0, old, new);
-        if found != old {
+            .compare_exchange::<Saves>(&mut self.seat, 0, held, new);
+        if found != held {
             self.cell = unpacked(found);
             return Err(self.cell);
         }

@@ -21,8 +21,9 @@ new-requires-clause-view c =
 pub loop-index-preserved : goal.loop-index-preserved
 loop-index-preserved c =
     let items = c.in_ok-push.ensures.items in
-    let is = seat_of_client c.args.setup c.args.setup.drivers c.loop-index.index _ _ c.loop-index.invariant.1 (omega arith) c.split_client-seat.ensures.seat in
-    (c.split_client-seat.ensures.board ∙ c.loop-index.invariant.0,
-     base_of_client c.args.setup c.args.setup.drivers c.loop-index.index _ _ c.loop-index.invariant.1 (omega arith) c.split_client-seat.ensures.base,
-     one_more pass_view (client_view c.args.setup) c.loop-index.passes.items _ c.new.result c.loop-index.index items c.loop-index.invariant.2 (c.new.ensures.view ∙ ap (λ m. m.0) is),
-     all_more (λ (p : Pass). p.seat.table_id ≡ c.args.table.now.shared.table_id) c.loop-index.passes.items _ c.new.result items c.loop-index.invariant.3 (c.new.ensures.board ∙ c.split_client-seat.ensures.same_board))
+    let is = seat_of_client c.args.setup c.args.setup.drivers c.loop-index.index _ _ c.loop-index.invariant.1 (omega arith) c.split_client-seat.ensures.seat in (
+      c.split_client-seat.ensures.board ∙ c.loop-index.invariant.0,
+      base_of_client c.args.setup c.args.setup.drivers c.loop-index.index _ _ c.loop-index.invariant.1 (omega arith) c.split_client-seat.ensures.base,
+      one_more pass_view (client_view c.args.setup) c.loop-index.passes.items _ c.new.result c.loop-index.index items c.loop-index.invariant.2 (c.new.ensures.view ∙ ap (λ m. m.0) is),
+      all_more (λ (p : Pass). p.seat.table_id ≡ c.args.table.now.shared.table_id) c.loop-index.passes.items _ c.new.result items c.loop-index.invariant.3 (c.new.ensures.board ∙ c.split_client-seat.ensures.same_board),
+    )

@@ -15,8 +15,9 @@ new-requires-clause-view c = seat_of_driver c.args.setup c.loop-index.index 0 _ 
 
 pub loop-index-preserved : goal.loop-index-preserved
 loop-index-preserved c =
-    let items = c.in_ok-push.ensures.items in
-    (c.split_driver-seat.ensures.board ∙ c.loop-index.invariant.0,
-     base_of_driver c.args.setup c.loop-index.index 0 _ _ c.loop-index.invariant.1 (omega arith) c.split_driver-seat.ensures.base,
-     one_more seat_view (driver_view c.args.setup) c.loop-index.seats.items _ c.new.result c.loop-index.index items c.loop-index.invariant.2 c.new.ensures.view,
-     all_more (λ (s : DriverSeat). s.seat.table_id ≡ c.args.table.now.shared.table_id) c.loop-index.seats.items _ c.new.result items c.loop-index.invariant.3 (c.new.ensures.board ∙ c.split_driver-seat.ensures.same_board))
+    let items = c.in_ok-push.ensures.items in (
+      c.split_driver-seat.ensures.board ∙ c.loop-index.invariant.0,
+      base_of_driver c.args.setup c.loop-index.index 0 _ _ c.loop-index.invariant.1 (omega arith) c.split_driver-seat.ensures.base,
+      one_more seat_view (driver_view c.args.setup) c.loop-index.seats.items _ c.new.result c.loop-index.index items c.loop-index.invariant.2 c.new.ensures.view,
+      all_more (λ (s : DriverSeat). s.seat.table_id ≡ c.args.table.now.shared.table_id) c.loop-index.seats.items _ c.new.result items c.loop-index.invariant.3 (c.new.ensures.board ∙ c.split_driver-seat.ensures.same_board),
+    )

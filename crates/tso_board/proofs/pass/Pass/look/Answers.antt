@@ -1,4 +1,4 @@
-use Rattle.std.proofs.Common.{arith, ap}
+use Rattle.std.proofs.Common.{arith}
 use Rattle.tso_board.proofs.Allowed.{looks}
 use Rattle.tso_board.proofs.pass.Pass.look.Goals as goal
 

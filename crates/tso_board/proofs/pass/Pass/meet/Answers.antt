@@ -1,4 +1,4 @@
-use Rattle.std.proofs.Common.{◌≡◌, arith, ap, subst, sym}
+use Rattle.std.proofs.Common.{◌≡◌, arith, ap, subst}
 use Rattle.tso_model.specs.declared.view.View.{View}
 use Rattle.tso_model.specs.Moves.{joined}
 use Rattle.tso_board.proofs.Allowed.{meets}

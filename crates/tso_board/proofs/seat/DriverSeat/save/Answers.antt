@@ -11,5 +11,5 @@ compare_exchange-found-requires c =
       c.requires.board,
       omega (arith, c.args.board.now.sized),
       saves _ _ _ _ _ c.args.hi _ (omega (arith, it.numbered, it.positive), c.requires.holds, c.requires.claim, c.requires.later, c.requires.clock)
-          (c.packed-old.ensures.value ∙ sym (ap (λ w. packed w.hi w.term) same)) (c.packed-new.ensures.value ∙ sym (ap (λ w. packed c.args.hi w.term) same)) (omega (arith, c.packed-new.ensures.value, (it.window_fits c.in-Some.claim c.in-Some.is).1)),
+          (c.packed-held.ensures.value ∙ sym (ap (λ w. packed w.hi w.term) same)) (c.packed-new.ensures.value ∙ sym (ap (λ w. packed c.args.hi w.term) same)) (omega (arith, c.packed-new.ensures.value, (it.window_fits c.in-Some.claim c.in-Some.is).1)),
     )
