@@ -2,6 +2,7 @@
 #![tactic(auto)]
 
 mod board;
+mod ledger;
 mod note;
 mod numbers;
 mod opening;
@@ -12,6 +13,7 @@ mod seat;
 mod tests;
 
 pub use board::Board;
+pub use ledger::{Ledger, gather};
 pub use note::Note;
 pub use opening::{Crew, open};
 pub use pass::Pass;

@@ -62,6 +62,15 @@ impl DriverSeat {
         }
     }
 
+    /// The seat of the same view, without what was kept in memory.
+    pub(crate) fn into_seat(self) -> Seat<(), View>
+        ensures view { result.me ≡ (seat_view self, []) }
+        ensures board { result.table_id ≡ self.seat.table_id }
+        ensures live { (seat_view self).spent ≡ false }
+    {
+        self.seat
+    }
+
     /// Makes room for `n` more claims. This alone takes memory of all that a driver calls.
     pub fn reserve(&mut self, n: usize) -> Result<(), NoMemory>
         ensures ok { OnOk result (n ≤ seat_spare self.new) }
