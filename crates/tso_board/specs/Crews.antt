@@ -11,7 +11,7 @@ use Rattle.tso_board.specs.declared.ledger.Ledger.{Ledger}
 use Rattle.tso_board.specs.Boards.{setup_of}
 use Rattle.tso_board.specs.Seats.{IsSeatOf, seat_view}
 use Rattle.tso_board.specs.Passes.{IsPassOf, pass_view}
-use Rattle.tso_board.specs.Ledger.{HasEach}
+use Rattle.tso_board.specs.Ledger.{GatheredFrom, HasEach}
 
 -- the crew has every seat and every pass of its board, in any order; notes may be missing
 pub record IsWhole (c : Crew) : Type 0 where
@@ -31,3 +31,7 @@ ledger_windows l = l.windows
 -- its batches
 abbrev pub ledger_batches : Ledger → List Batch
 ledger_batches l = l.batches
+
+-- the ledger's windows and batches are gathered from the crew's drivers and clients
+abbrev pub IsGathered : Ledger → Crew → Type 0
+IsGathered l c = GatheredFrom (setup_of c.board) (map seat_view c.seats.items) (map pass_view c.passes.items) (ledger_windows l) (ledger_batches l)

@@ -10,9 +10,9 @@ ghost use Rattle.tso_model.specs.Lists.{total};
 ghost use Rattle.tso_model.specs.Moves.{blank};
 ghost use Rattle.tso_model.specs.Steps.{AtRest};
 ghost use Rattle.tso_model.specs.Words.{opening_claim};
-ghost use Rattle.tso_board.specs.Ledger.{GatheredFrom, HasEach, all_batches, all_claims, all_joined};
+ghost use Rattle.tso_board.specs.Ledger.{HasEach, all_batches, all_claims, all_joined};
 ghost use Rattle.tso_board.specs.Boards.{setup_of};
-ghost use Rattle.tso_board.specs.Crews.{IsLedgerOf, IsWhole, ledger_batches, ledger_windows};
+ghost use Rattle.tso_board.specs.Crews.{IsGathered, IsLedgerOf, IsWhole, ledger_batches, ledger_windows};
 ghost use Rattle.tso_board.specs.Passes.{pass_view};
 ghost use Rattle.tso_board.specs.Seats.{seat_view};
 
@@ -53,7 +53,7 @@ impl Ledger {
 /// Want of memory hands everything back as it was.
 pub fn gather(crew: Crew) -> Result<Ledger, Crew>
     requires whole { IsWhole crew }
-    ensures ok { IfOk result (λ ledger. GatheredFrom (setup_of crew.board) (map seat_view crew.seats.items) (map pass_view crew.passes.items) (ledger_windows ledger) (ledger_batches ledger)) }
+    ensures ok { IfOk result (λ ledger. IsGathered ledger crew) }
     ensures board { IfOk result (λ ledger. IsLedgerOf ledger crew.board) }
     ensures err { IfErr result (λ back. back ≡ crew) }
 {

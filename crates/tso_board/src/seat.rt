@@ -1,4 +1,4 @@
-ghost use Rattle.std.specs.Prelude.{◌≡◌, ℕ, ◌+◌, ◌*◌, ◌<◌, ◌^◌, [], ◌≢◌, ◌⊎◌, false, true, None, Some, IfErr, IfOk, OnOk, OnErr, ◌≤◌};
+ghost use Rattle.std.specs.Prelude.{◌≡◌, ℕ, ◌+◌, ◌*◌, ◌<◌, ◌^◌, [], ◌≢◌, false, true, None, Some, IfErr, IfOk, OnOk, OnErr, ◌≤◌};
 ghost use Rattle.std.specs.Option.{ForSome};
 ghost use Rattle.tso_board.specs.Actors.{IsDriverView};
 
@@ -40,7 +40,7 @@ impl DriverSeat {
     ghost use Rattle.tso_model.specs.Moves.{blank};
     ghost use Rattle.tso_model.specs.Steps.{held, HasClaim, raised};
     ghost use Rattle.tso_board.specs.Seats.{IsSeatOf, seat_view, seat_spare};
-    ghost use Rattle.tso_board.specs.Told.{Claimed, IsCell, MayPublish, Missed, Read, Saved, given_up, holding, told_limit};
+    ghost use Rattle.tso_board.specs.Told.{Claimed, IsCell, MayPublish, MayRaise, Missed, Read, Saved, given_up, holding, told_limit};
 
     /// The seat of a driver that did nothing yet.
     pub(crate) fn new(alloc: Global, seat: Seat<(), View>, number: u8, cell: CellWord) -> DriverSeat
@@ -188,7 +188,7 @@ impl DriverSeat {
     /// only reads.
     pub fn raise(&mut self, board: &Board, at: u64) -> u64
         requires board { IsSeatOf self.old board.now }
-        requires may { (at ≡ 0) ⊎ (((seat_view self.old).holds ≡ true) × HasClaim (seat_view self.old) × (at ≤ (held (seat_view self.old)).hi * 262144)) }
+        requires may { MayRaise at (seat_view self.old) }
         ensures board { IsSeatOf self.new board.now }
         ensures step { seat_view self.new ≡ raised at result (seat_view self.old) }
         ensures spare { seat_spare self.new ≡ seat_spare self.old }
