@@ -7,3 +7,5 @@ pub mod Seats
 pub mod Passes
 pub mod Notes
 pub mod Opened
+pub mod Ledger
+pub mod Crews

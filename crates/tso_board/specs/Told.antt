@@ -1,5 +1,5 @@
 -- What each call tells its driver or client: the view after its one step, by the number that the step found, and what is known of that number. The steps are those of tso_model (Steps); that another cell names a later term is the rule of a guarded cell (PD keeps its saved timestamp under a guarded write of etcd).
-use Rattle.std.specs.Prelude.{◌≡◌, ℕ, ◌+◌, ◌^◌, ◌<◌, ◌≤◌, Option, Some, None, cond, true, false, All}
+use Rattle.std.specs.Prelude.{◌≡◌, ℕ, ◌+◌, ◌*◌, ◌^◌, ◌<◌, ◌≤◌, ◌⊎◌, Option, Some, None, cond, true, false, All}
 use Rattle.pd_types.specs.declared.oracle.Batch.{Batch}
 use Rattle.pd_types.specs.declared.oracle.CellWord.{CellWord}
 use Rattle.pd_types.specs.declared.oracle.Seen.{Seen}
@@ -50,6 +50,10 @@ pub record Claimed (term : ℕ) (old new : View) : Type 0 where
 pub record Saved (hi : ℕ) (old new : View) : Type 0 where
   pub view : new ≡ saves hi old old.latest
   pub rises : Rises old.cell (record { saved = (held old).hi; term = (held old).term })
+
+-- a cursor may be raised by 0, or to at most the end of the held window
+abbrev pub MayRaise : ℕ → View → Type 0
+MayRaise at v = (at ≡ 0) ⊎ ((v.holds ≡ true) × HasClaim v × (at ≤ (held v).hi * 262144))
 
 -- THE LIMIT
 

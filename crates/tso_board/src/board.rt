@@ -6,7 +6,7 @@ ghost use Rattle.tso_model.specs.Steps.{AtRest};
 
 use crate::plays::{Meets, NewClient, NewDriver, OracleRule};
 use atomic_table::{Seat, Table};
-use pd_types::LOGICAL;
+use pd_types::{CellWord, LOGICAL};
 use std::alloc::{AllocError, Global};
 use tso_model::{Setup, View};
 
@@ -20,9 +20,12 @@ pub struct Board {
     pub(crate) table: Words,
     /// The seat that gave all numbers and takes them back in the end.
     pub(crate) base: Seat<(), View>,
+    pub(crate) opening: CellWord,
+    pub(crate) alloc: Global,
     ghost sized: { table.shared.table_id.words ≡ 1 + 2 * table.shared.key.drivers },
     ghost no_slots: { table.shared.table_id.slots ≡ 0 },
     ghost based: { base.table_id ≡ table.shared.table_id },
+    ghost opens: { table.shared.key.cell ≡ opening },
     ghost gave_all: { base.me ≡ (blank table.shared.key.cell, []) },
 }
 

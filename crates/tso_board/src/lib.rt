@@ -2,6 +2,8 @@
 #![tactic(auto)]
 
 mod board;
+mod laws;
+mod ledger;
 mod note;
 mod numbers;
 mod opening;
@@ -12,6 +14,8 @@ mod seat;
 mod tests;
 
 pub use board::Board;
+pub use laws::numbers_in_order_are_all;
+pub use ledger::{Ledger, gather};
 pub use note::Note;
 pub use opening::{Crew, open};
 pub use pass::Pass;

@@ -40,7 +40,12 @@ pub fn open(alloc: Global, drivers: u8, clients: u8, cell: CellWord) -> Result<C
     let seats = driver_seats(alloc, &table, &mut base, setup)?;
     let passes = client_passes(alloc, &table, &mut base, setup)?;
     Ok(Crew {
-        board: Board { table, base },
+        board: Board {
+            table,
+            base,
+            opening: cell,
+            alloc,
+        },
         seats,
         passes,
         notes: Vec::new(alloc),

@@ -63,6 +63,15 @@ impl Pass {
         }
     }
 
+    /// The seat of the same view, without what was kept in memory.
+    pub(crate) fn into_seat(self) -> Seat<(), View>
+        ensures view { result.me ≡ (pass_view self, []) }
+        ensures board { result.table_id ≡ self.seat.table_id }
+        ensures live { (pass_view self).spent ≡ false }
+    {
+        self.seat
+    }
+
     /// Makes room for `n` more batches. This alone takes memory of all that a client calls.
     pub fn reserve(&mut self, n: usize) -> Result<(), NoMemory>
         ensures ok { OnOk result (n ≤ pass_spare self.new) }

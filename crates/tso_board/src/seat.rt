@@ -1,4 +1,4 @@
-ghost use Rattle.std.specs.Prelude.{◌≡◌, ℕ, ◌+◌, ◌*◌, ◌<◌, ◌^◌, [], ◌≢◌, ◌⊎◌, false, true, None, Some, IfErr, IfOk, OnOk, OnErr, ◌≤◌};
+ghost use Rattle.std.specs.Prelude.{◌≡◌, ℕ, ◌+◌, ◌*◌, ◌<◌, ◌^◌, [], ◌≢◌, false, true, None, Some, IfErr, IfOk, OnOk, OnErr, ◌≤◌};
 ghost use Rattle.std.specs.Option.{ForSome};
 ghost use Rattle.tso_board.specs.Actors.{IsDriverView};
 
@@ -40,7 +40,7 @@ impl DriverSeat {
     ghost use Rattle.tso_model.specs.Moves.{blank};
     ghost use Rattle.tso_model.specs.Steps.{held, HasClaim, raised};
     ghost use Rattle.tso_board.specs.Seats.{IsSeatOf, seat_view, seat_spare};
-    ghost use Rattle.tso_board.specs.Told.{Claimed, IsCell, MayPublish, Missed, Read, Saved, given_up, holding, told_limit};
+    ghost use Rattle.tso_board.specs.Told.{Claimed, IsCell, MayPublish, MayRaise, Missed, Read, Saved, given_up, holding, told_limit};
 
     /// The seat of a driver that did nothing yet.
     pub(crate) fn new(alloc: Global, seat: Seat<(), View>, number: u8, cell: CellWord) -> DriverSeat
@@ -60,6 +60,15 @@ impl DriverSeat {
             latest: None,
             older: Vec::new(alloc),
         }
+    }
+
+    /// The seat of the same view, without what was kept in memory.
+    pub(crate) fn into_seat(self) -> Seat<(), View>
+        ensures view { result.me ≡ (seat_view self, []) }
+        ensures board { result.table_id ≡ self.seat.table_id }
+        ensures live { (seat_view self).spent ≡ false }
+    {
+        self.seat
     }
 
     /// Makes room for `n` more claims. This alone takes memory of all that a driver calls.
@@ -179,7 +188,7 @@ impl DriverSeat {
     /// only reads.
     pub fn raise(&mut self, board: &Board, at: u64) -> u64
         requires board { IsSeatOf self.old board.now }
-        requires may { (at ≡ 0) ⊎ (((seat_view self.old).holds ≡ true) × HasClaim (seat_view self.old) × (at ≤ (held (seat_view self.old)).hi * 262144)) }
+        requires may { MayRaise at (seat_view self.old) }
         ensures board { IsSeatOf self.new board.now }
         ensures step { seat_view self.new ≡ raised at result (seat_view self.old) }
         ensures spare { seat_spare self.new ≡ seat_spare self.old }

@@ -1,8 +1,8 @@
 ghost use Rattle.std.specs.Prelude.{◌≡◌, IfOk};
 ghost use Rattle.tso_board.specs.Seats.{IsSeatOf, seat_view};
 
-use crate::{Board, Crew, DriverSeat, open};
-use pd_types::CellWord;
+use crate::{Board, Crew, DriverSeat, gather, open};
+use pd_types::{CellWord, Window};
 use std::alloc::Global;
 use std::process::Abort;
 use std::test::Fail;
@@ -71,5 +71,23 @@ fn later_campaign_finds_the_other_cell(rt: HostRuntime) -> Result<(), Fail> {
     assert!(rt; first.held().is_some() && second.held().is_none());
     first.resign(&board);
     assert!(rt; first.held().is_none());
+    Ok(())
+}
+
+// A ledger of nothing but the opening window, which is driver 0's.
+#[test]
+fn gathers_the_opening_window(rt: HostRuntime) -> Result<(), Fail> {
+    let crew = open(rt.alloc(), 2, 3, OPENING)?;
+    let Ok(ledger) = gather(crew) else {
+        return Err(Fail::new("no ledger"));
+    };
+    let opening = Window {
+        term: 5,
+        driver: 0,
+        lo: 1000,
+        hi: 1000,
+    };
+    assert!(rt; ledger.windows().as_slice() == [opening].as_slice());
+    assert!(rt; ledger.batches().as_slice().is_empty());
     Ok(())
 }
