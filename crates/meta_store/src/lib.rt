@@ -1,6 +1,7 @@
 //! The metadata: records under keys, whose writes are guarded by a term and by a revision.
 #![tactic(auto)]
 
+mod door;
 mod fault;
 mod laws;
 mod meta;
@@ -11,6 +12,7 @@ mod tables;
 mod tests;
 mod text;
 
+pub use door::Door;
 pub use fault::MetaFault;
 pub use laws::{
     all_records_are_handed_out, the_fence_is_the_greatest_accepted_term, the_first_fault_is_told,
