@@ -1,0 +1,6 @@
+pub mod Keys
+pub mod Order
+pub mod Spots
+pub mod Found
+pub mod Refines
+pub mod Firsts

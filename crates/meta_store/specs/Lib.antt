@@ -1,0 +1,5 @@
+pub mod Cells
+pub mod Doors
+pub mod Places
+pub mod Past
+pub mod Steps
