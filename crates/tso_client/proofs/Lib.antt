@@ -1,1 +1,3 @@
 mod Taking
+mod Posting
+mod Slipping

@@ -4,6 +4,13 @@
 
 mod batch;
 mod draw;
+mod entry;
+mod log;
+mod name;
+mod post;
 
 pub use batch::split;
 pub use draw::{DrawFault, take};
+pub use entry::{PostEntry, PostJournal, PostWhat};
+pub use name::BoardName;
+pub use post::{Post, Slip, Slips};
