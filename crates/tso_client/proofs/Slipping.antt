@@ -27,7 +27,7 @@ length_of a (suc n) = ap suc (length_of (a + 1) n)
 
 above : (a n x : ℕ) → Among x (numbers_from a n) → a ≤ x
 above a zero x h = absurd (some-ne-none x (sym h.1))
-above a (suc n) x (zero, e) = omega (arith, some-injective e)
+above a (suc n) x (zero, e) = omega (arith, some-injective a x e)
 above a (suc n) x (suc k, e) = omega (arith, above (a + 1) n x (k, e))
 
 pub apart : (a n : ℕ) → AreApart (numbers_from a n)

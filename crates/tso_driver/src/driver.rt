@@ -2,11 +2,10 @@ ghost use Rattle.std.specs.Prelude.{◌≡◌, ℕ, ◌+◌, ◌<◌, ◌≤◌,
 ghost use Rattle.tso_board.specs.Seats.{seat_view};
 ghost use Rattle.tso_driver.specs.Settled.{IsSettled};
 
-use crate::plan::{is_past_clock, is_saving, next_of_lead, next_of_tick};
 use crate::reply::{LeadReply, TickReply};
 use pd_types::LOGICAL;
 use tso_board::{Board, DriverSeat};
-use tso_model::AHEAD_MS;
+use tso_model::{AHEAD_MS, is_past_clock, is_saving, next_of_lead, next_of_tick};
 
 // The last term that a cell can have.
 const LAST_TERM: u64 = 262_143;

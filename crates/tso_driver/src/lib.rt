@@ -2,7 +2,6 @@
 #![tactic(auto)]
 
 mod driver;
-mod plan;
 mod reply;
 mod said;
 
