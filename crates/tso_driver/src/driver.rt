@@ -1,9 +1,10 @@
-ghost use Rattle.std.specs.Prelude.{◌≡◌, ℕ, ◌+◌, ◌<◌, ◌≤◌, true};
+ghost use Rattle.std.specs.Prelude.{◌≡◌, ℕ, ◌+◌, ◌<◌, ◌≤◌, true, OnErr, OnOk};
+ghost use Rattle.tso_board.specs.declared.board.Board.{Board};
 ghost use Rattle.tso_board.specs.Seats.{seat_view};
 ghost use Rattle.tso_driver.specs.Settled.{IsSettled};
 
 use crate::reply::{LeadReply, TickReply};
-use pd_types::LOGICAL;
+use pd_types::{LOGICAL, NoMemory};
 use tso_board::{Board, DriverSeat};
 use tso_model::{AHEAD_MS, is_past_clock, is_saving, next_of_lead, next_of_tick};
 
@@ -38,6 +39,17 @@ impl Driver {
         ensures settled { IsSettled (seat_view result) }
     {
         self.seat
+    }
+
+    /// Makes room for `n` more claims, of which a lead takes one at most. Want of memory leaves the
+    /// driver as it was.
+    pub fn reserve(&mut self, n: usize) -> Result<(), NoMemory>
+        ensures ok { OnOk result (n ≤ spare_of self.new) }
+        ensures err { OnErr result (spare_of self.new ≡ spare_of self.old) }
+        ensures same { view_of self.new ≡ view_of self.old }
+        ensures board { (board : Board) → IsDriverOf self.old board → IsDriverOf self.new board }
+    {
+        self.seat.reserve(n)
     }
 
     /// Campaigns for the next term at this moment, in milliseconds, and opens its window: from the

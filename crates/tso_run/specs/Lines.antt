@@ -28,7 +28,7 @@ driver_line d a = record { number = a.line; driver = d; ask = driver_ask a.said 
 abbrev pub client_ask : ClientSaid → ClientAsk
 client_ask (Took d n answer) = Take d n
 client_ask (Told to) = Tell to
-client_ask (Heard note) = Hear
+client_ask (Heard heard) = Hear
 
 -- the line that an answer of the client c answers
 abbrev pub client_line : ℕ → ClientAnswer → ClientLine

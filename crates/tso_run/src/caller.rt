@@ -187,10 +187,10 @@ impl<N: BoardName> ClientWork<N> {
             if line.client != self.number {
                 continue;
             }
-            if self.answer_line(rt, board, post, gate, *line).is_err() {
+            let Ok(()) = self.answer_line(rt, board, post, gate, *line) else {
                 self.failed = true;
                 return;
-            }
+            };
         }
     }
 }

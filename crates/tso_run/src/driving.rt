@@ -85,10 +85,10 @@ impl DriverWork {
             if line.driver != self.number {
                 continue;
             }
-            if self.answer_line(board, gate, *line).is_err() {
+            let Ok(()) = self.answer_line(board, gate, *line) else {
                 self.failed = true;
                 return;
-            }
+            };
         }
     }
 }

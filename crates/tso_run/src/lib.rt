@@ -10,4 +10,4 @@ mod shared;
 mod start;
 
 pub use line::{ClientAsk, ClientLine, DriverAsk, DriverLine};
-pub use run::{ClientAnswers, DriverAnswers, Left, run};
+
