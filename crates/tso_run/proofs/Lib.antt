@@ -1,2 +1,4 @@
 pub mod Pairs
 pub mod Lines
+pub mod Rows
+pub mod Starting

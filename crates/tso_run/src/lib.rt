@@ -5,7 +5,6 @@ mod caller;
 mod driving;
 mod halve;
 mod line;
-mod run;
 mod shared;
 mod start;
 

@@ -1,1 +1,79 @@
 // The workers of a run before they begin.
+ghost use Rattle.std.specs.Prelude.{◌≡◌, ◌≤◌, All, IfOk, map};
+ghost use Rattle.tso_model.specs.Moves.{numbers_from};
+ghost use Rattle.tso_board.specs.Actors.{client_view, driver_view};
+ghost use Rattle.tso_board.specs.Boards.{board_id, setup_of};
+ghost use Rattle.tso_board.specs.Passes.{IsPassOf, pass_view};
+ghost use Rattle.tso_board.specs.Seats.{IsSeatOf, seat_view};
+ghost use Rattle.tso_client.specs.Slips.{clients_of, new_slip};
+ghost use Rattle.tso_run.specs.Works.{IsNewClient, IsNewDriver};
+
+use crate::caller::ClientWork;
+use crate::driving::DriverWork;
+use pd_types::NoMemory;
+use std::alloc::Global;
+use tso_board::{Board, DriverSeat, Pass};
+use tso_client::{BoardName, Post, Slips};
+use tso_driver::Driver;
+
+/// A worker for each driver, by rising numbers.
+pub fn drivers(
+    alloc: Global,
+    _board: &Board,
+    seats: Vec<DriverSeat>,
+) -> Result<Vec<DriverWork>, NoMemory>
+    requires drivers { (setup_of _board.now).drivers ≤ 7 }
+    requires seats { All (λ s. IsSeatOf s _board.now) seats.items }
+    requires views { map seat_view seats.items ≡ map (driver_view (setup_of _board.now)) (numbers_from 1 (setup_of _board.now).drivers) }
+    ensures new { IfOk result (λ works. All (IsNewDriver _board.now) works.items) }
+    ensures numbers { IfOk result (λ works. map (λ w. w.number) works.items ≡ numbers_from 1 (setup_of _board.now).drivers) }
+{
+    let mut works = Vec::new(alloc);
+    let mut number = 0u8;
+    for seat in seats {
+        number += 1;
+        works.push(DriverWork {
+            number,
+            driver: Driver::of(seat),
+            answers: Vec::new(alloc),
+            failed: false,
+        })?;
+    }
+    Ok(works)
+}
+
+/// A worker for each client, by rising numbers.
+pub fn clients<N: BoardName>(
+    alloc: Global,
+    _board: &Board,
+    _post: &Post<N>,
+    passes: Vec<Pass>,
+    slips: Slips<N>,
+) -> Result<Vec<ClientWork<N>>, NoMemory>
+    requires named { board_id _board.now ≡ N.board }
+    requires clients { clients_of _post.now ≡ (setup_of _board.now).clients }
+    requires few { (setup_of _board.now).clients ≤ 64 }
+    requires passes { All (λ p. IsPassOf p _board.now) passes.items }
+    requires views { map pass_view passes.items ≡ map (client_view (setup_of _board.now)) (numbers_from 1 (setup_of _board.now).clients) }
+    requires slips { slips.items ≡ map (new_slip _post.now) (numbers_from 1 (setup_of _board.now).clients) }
+    ensures new { IfOk result (λ works. All (IsNewClient N.board _board.now _post.now) works.items) }
+    ensures numbers { IfOk result (λ works. map (λ w. w.number) works.items ≡ numbers_from 1 (setup_of _board.now).clients) }
+{
+    let mut works = Vec::new(alloc);
+    let mut slips = slips.into_iter();
+    let mut number = 0u8;
+    for pass in passes {
+        number += 1;
+        let Some(slip) = slips.next() else {
+            unreachable!()
+        };
+        works.push(ClientWork {
+            number,
+            pass,
+            slip,
+            answers: Vec::new(alloc),
+            failed: false,
+        })?;
+    }
+    Ok(works)
+}
