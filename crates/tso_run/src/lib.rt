@@ -3,10 +3,13 @@
 
 mod caller;
 mod driving;
+mod end;
 mod halve;
 mod line;
+mod runner;
 mod shared;
 mod start;
 
+pub use end::{ClientAnswers, DriverAnswers};
 pub use line::{ClientAsk, ClientLine, DriverAsk, DriverLine};
-
+pub use runner::{Left, run};
