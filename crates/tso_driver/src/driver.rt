@@ -68,11 +68,11 @@ impl Driver {
         if cell.term == LAST_TERM {
             return LeadReply::TermsSpent;
         }
-        let next = next_of_lead(cell.saved, now);
-        if is_past_clock(next) {
+        let lo = next_of_lead(cell.saved, now);
+        if is_past_clock(lo) {
             return LeadReply::ClockRange;
         }
-        let hi = next + AHEAD_MS;
+        let hi = lo + AHEAD_MS;
         let term = match self.seat.campaign(board) {
             Err(found) => return LeadReply::Beaten { found },
             Ok(term) => term,
@@ -81,9 +81,9 @@ impl Driver {
             self.seat.resign(board);
             return LeadReply::Lost { found };
         }
-        self.seat.raise(board, next * LOGICAL);
+        self.seat.raise(board, lo * LOGICAL);
         self.seat.publish(board);
-        LeadReply::Won { term, lo: next, hi }
+        LeadReply::Won { term, lo, hi }
     }
 
     /// Moves the cursor on with the clock at this moment, in milliseconds, and saves a later end
@@ -111,14 +111,14 @@ impl Driver {
         if is_past_clock(next) {
             return TickReply::ClockRange;
         }
-        let hi = next + AHEAD_MS;
-        if let Err(found) = self.seat.save(board, hi) {
+        let end = next + AHEAD_MS;
+        if let Err(found) = self.seat.save(board, end) {
             self.seat.resign(board);
             return TickReply::Lost { found };
         }
         self.seat.raise(board, next * LOGICAL);
         self.seat.publish(board);
-        TickReply::Moved { next, hi }
+        TickReply::Moved { next, hi: end }
     }
 
     /// Gives the held term up: its limit is 0 from then on. Answers false, and does nothing, where no

@@ -4,6 +4,8 @@
 mod driver;
 mod reply;
 mod said;
+#[cfg(test)]
+mod tests;
 
 pub use driver::Driver;
 pub use reply::{LeadReply, TickReply};
