@@ -1,4 +1,4 @@
-ghost use Rattle.std.specs.Prelude.{◌≡◌, ◌≢◌, ◌↔◌, ◌+◌, ◌<◌, ◌≤◌, ℕ, List, None, Some, length, option_map};
+ghost use Rattle.std.specs.Prelude.{◌≡◌, ◌≢◌, ◌↔◌, ◌+◌, ◌<◌, ◌≤◌, ℕ, List, None, Some, codes, length, option_map};
 ghost use Rattle.pd_types.specs.declared.store.StoreRec.{StoreRec};
 ghost use Rattle.pd_types.specs.declared.store.StoreState.{StoreState};
 ghost use Rattle.pd_types.specs.declared.store.StoreState.TheVariants as states;
@@ -7,6 +7,7 @@ ghost use Rattle.store_table.specs.declared.fault.StoreFault.TheVariants as faul
 ghost use Rattle.store_table.specs.declared.names.StateName.TheVariants as names;
 ghost use Rattle.store_table.specs.Standing.{state_name, IsLive, IsUsable};
 ghost use Rattle.store_table.specs.Entries.{entry_at, placed, changed};
+ghost use Rattle.store_table.specs.StateText.{state_text};
 ghost use Rattle.store_table.specs.Calls.{answered, heard, in_state, loaded, load_refusal, put_refusal, known_refusal, bury_refusal};
 
 use crate::{LIVE_MS, MOST_STORES, USABLE_MS};
@@ -129,4 +130,13 @@ pub fn the_refusals_of_a_store()
         bury_refusal (Some state) ≡ Some faults.NotOffline }
     ensures heard { (state : StoreState) (entries : List StoreEntry) → state ≢ states.Tombstone →
         (known_refusal (Some state) ≡ None) × (put_refusal (Some state) entries ≡ None) }
+{}
+
+/// The names of the states, as pd-ctl prints them.
+pub fn pd_ctl_names_the_states()
+    ensures up { state_text names.Up ≡ codes "Up" }
+    ensures disconnected { state_text names.Disconnected ≡ codes "Disconnected" }
+    ensures down { state_text names.Down ≡ codes "Down" }
+    ensures offline { state_text names.Offline ≡ codes "Offline" }
+    ensures tombstone { state_text names.Tombstone ≡ codes "Tombstone" }
 {}
