@@ -3,12 +3,12 @@ ghost use Rattle.std.specs.Option.{ForSome};
 ghost use Rattle.tso_board.specs.Actors.{IsDriverView};
 
 use crate::Board;
-use crate::numbers::{lengthened, marks, packed, unpacked};
+use crate::numbers::marks;
 use crate::plays::{Campaigns, Publishes, Raises, Reads, Resigns, Saves};
 use atomic_table::Seat;
 use pd_types::{CellWord, NoMemory, Window};
 use std::alloc::Global;
-use tso_model::{Claim, View};
+use tso_model::{Claim, View, cell_in, lengthened, packed};
 
 /// The seat of a driver: it makes the driver's steps on the board, and keeps what the driver knows.
 #[derive(Drop)]
@@ -98,7 +98,7 @@ impl DriverSeat {
         ensures spare { seat_spare self.new ≡ seat_spare self.old }
     {
         let found = board.table.shared.load::<Reads>(&mut self.seat, 0);
-        self.cell = unpacked(found);
+        self.cell = cell_in(found);
         self.cell
     }
 
@@ -121,7 +121,7 @@ impl DriverSeat {
             .shared
             .compare_exchange::<Campaigns>(&mut self.seat, 0, known, known + 1);
         if found != known {
-            self.cell = unpacked(found);
+            self.cell = cell_in(found);
             return Err(self.cell);
         }
         if let Some(claim) = self.latest {
@@ -169,7 +169,7 @@ impl DriverSeat {
             .shared
             .compare_exchange::<Saves>(&mut self.seat, 0, held, new);
         if found != held {
-            self.cell = unpacked(found);
+            self.cell = cell_in(found);
             return Err(self.cell);
         }
         self.cell = CellWord {
