@@ -48,7 +48,8 @@ pub fn each_role_has_its_word()
 {}
 
 /// The tests of a JSON value in their order; a rule needs its group, id, role and count, and each
-/// constraint its key and operator; a null counts as absent; a range from a key to itself is empty.
+/// constraint its key and operator; a null counts as absent where a field may be absent; a range from
+/// a key to itself is empty.
 pub fn the_tests_stand_in_order()
     ensures order { (value : Data) → map (λ test. test.fault) (tests_of value) ≡
         faults.NotObject ∷ faults.Missing ∷ faults.WrongKind ∷ faults.BadHex ∷ faults.BadRole ∷
