@@ -1,4 +1,4 @@
-ghost use Rattle.std.specs.Prelude.{◌≡◌, ℕ, ◌+◌, ◌*◌, ◌<◌, ◌^◌, [], ◌≢◌, false, true, None, Some, IfErr, IfOk, OnOk, OnErr, ◌≤◌};
+ghost use Rattle.std.specs.Prelude.{◌≡◌, ℕ, ◌+◌, ◌*◌, ◌<◌, ◌^◌, [], ◌≢◌, false, true, None, Some, IfErr, IfOk, IfSome, OnOk, OnErr, ◌≤◌};
 ghost use Rattle.std.specs.Option.{ForSome};
 ghost use Rattle.tso_board.specs.Actors.{IsDriverView};
 
@@ -85,6 +85,7 @@ impl DriverSeat {
     /// The held window, or none where no term is held.
     pub fn held(&self) -> Option<Window>
         ensures value { result ≡ holding (seat_view self.now) }
+        ensures range { IfSome result (λ w. w.hi < 2 ^ 45) }
     {
         let claim = self.latest?;
         self.holds.then_some(claim.window)
@@ -111,6 +112,7 @@ impl DriverSeat {
         ensures board { IsSeatOf self.new board.now }
         ensures claimed { IfOk result (λ term. Claimed term (seat_view self.old) (seat_view self.new)) }
         ensures missed { IfErr result (λ found. Missed found (seat_view self.old) (seat_view self.new)) }
+        ensures other { IfErr result (λ found. found ≢ (seat_view self.old).cell) }
         ensures spare { seat_spare self.old ≤ seat_spare self.new + 1 }
         ensures err { OnErr result (seat_spare self.new ≡ seat_spare self.old) }
     {

@@ -1,0 +1,53 @@
+// When a lead or a tick goes where. (In the product these stand in tso_core.)
+ghost use Rattle.std.specs.Prelude.{◌≡◌, ◌<◌, ◌^◌};
+ghost use Rattle.tso_model.specs.Plan.{lead_next, past_clock, saves_for, tick_next};
+
+use pd_types::LOGICAL;
+
+/// How far ahead a window's end is saved, in milliseconds.
+pub use tso_model::AHEAD_MS;
+
+// Saved ends are below this, in milliseconds.
+const CLOCK_END: u64 = 1 << 45;
+
+// A tick moves on where the logical part is above this.
+const HALF_LOGICAL: u64 = 131_072;
+
+/// Whether the end saved with this physical time is past the clock.
+pub fn is_past_clock(next: u64) -> bool
+    ensures value { result ≡ past_clock next }
+{
+    next >= CLOCK_END - AHEAD_MS
+}
+
+/// The start of a lead over this saved time.
+pub fn next_of_lead(saved: u64, now: u64) -> u64
+    requires clock { saved < 2 ^ 45 }
+    ensures value { result ≡ lead_next saved now }
+{
+    now.max(saved + 1)
+}
+
+/// Where a tick moves the cursor to, or none.
+pub fn next_of_tick(cursor: u64, hi: u64, now: u64) -> Option<u64>
+    ensures value { result ≡ tick_next cursor hi now }
+{
+    let physical = cursor / LOGICAL;
+    if now.saturating_sub(physical) > 1 {
+        return Some(now);
+    }
+    if cursor % LOGICAL > HALF_LOGICAL {
+        return Some(physical + 1);
+    }
+    if physical >= hi {
+        return Some(physical + 1);
+    }
+    None
+}
+
+/// Whether a tick to this physical time saves a new end.
+pub fn is_saving(next: u64, hi: u64) -> bool
+    ensures value { result ≡ saves_for next hi }
+{
+    hi.saturating_sub(next) <= 1
+}
