@@ -4,3 +4,5 @@ pub mod Spots
 pub mod Found
 pub mod Refines
 pub mod Firsts
+pub mod Stored
+pub mod Verdicts

@@ -3,3 +3,4 @@ pub mod Doors
 pub mod Places
 pub mod Past
 pub mod Steps
+pub mod Stores

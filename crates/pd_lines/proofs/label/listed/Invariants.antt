@@ -1,7 +1,7 @@
 use Rattle.std.proofs.Common.{◌≡◌, length, nat_eq}
 use Rattle.std.specs.List.{slice_split}
-use Rattle.pd_script.specs.Forms.{labels_from, labels_of}
-use Rattle.pd_script.proofs.form.labels.Given as goal
+use Rattle.pd_lines.specs.Labels.{labels_from, labels_of}
+use Rattle.pd_lines.proofs.label.listed.Given as goal
 
 abbrev pub invariant-loop-labels : goal.invariant-loop-labels
 invariant-loop-labels l = labels_of l.word ≡ labels_from l.labels (slice_split (λ b. nat_eq b 44) l.left)

@@ -1,5 +1,5 @@
-use Rattle.pd_script.proofs.Cutting.{part_ends, part_goes_on, part_is_all}
-use Rattle.pd_script.proofs.form.cut.Goals as goal
+use Rattle.pd_lines.proofs.Cutting.{part_ends, part_goes_on, part_is_all}
+use Rattle.pd_lines.proofs.words.cut.Goals as goal
 
 pub returns-then-b-byte-clause-value : goal.returns-then-b-byte-clause-value
 returns-then-b-byte-clause-value c = part_ends _ _ _ c.loop-i-test.true c.if-b-byte.true c.loop-i.invariant

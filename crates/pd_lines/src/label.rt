@@ -1,0 +1,94 @@
+// Words that list labels.
+ghost use Rattle.std.specs.Prelude.{◌≡◌, ◌<◌, ◌∷◌, [], ℕ, List, length, IfOk, IfErr, OnOk, Some};
+ghost use Rattle.pd_types.specs.declared.store.Label.{Label};
+ghost use Rattle.pd_lines.specs.Labels.{AreLabels, has_key, label_by, label_of, labels_of, labels_text, with_label};
+ghost use Rattle.pd_lines.specs.Refused.{IsWordFault};
+
+use crate::cut;
+use crate::plain::{WordFault, is_plain, plain_text};
+use pd_types::{Label, Labels, NoMemory};
+use std::alloc::Global;
+
+/// The labels that a word lists: one to four, each `key=value` with 1 to 32 plain characters on
+/// either side, joined by commas, and no key twice; none for another word.
+pub fn labels(alloc: Global, word: &[u8]) -> Result<Option<Labels>, NoMemory>
+    ensures value { IfOk result (λ labels. labels ≡ labels_of word.now) }
+{
+    match listed(alloc, word) {
+        Ok(labels) => Ok(Some(labels)),
+        Err(WordFault::Form) => Ok(None),
+        Err(WordFault::NoMemory) => Err(NoMemory),
+    }
+}
+
+/// A word lists labels exactly where it is how they are written, and they are one to four, each in
+/// its form, and no key twice.
+pub fn labels_are_read_as_they_are_written()
+    ensures read { (word : List ℕ) (labels : List Label) → labels_of word ≡ Some labels →
+        AreLabels labels × (0 < length labels) × (word ≡ labels_text labels) }
+    ensures written { (labels : List Label) → AreLabels labels → 0 < length labels →
+        labels_of (labels_text labels) ≡ Some labels }
+{}
+
+// The label of a key and a value.
+fn pair(alloc: Global, key: &[u8], value: &[u8]) -> Result<Label, WordFault>
+    ensures ok { IfOk result (λ label. label_by (key.now ∷ value.now ∷ []) ≡ Some label) }
+    ensures refused { IfErr result (IsWordFault (label_by (key.now ∷ value.now ∷ []))) }
+{
+    if !is_plain(32, key) || !is_plain(32, value) {
+        return Err(WordFault::Form);
+    }
+    Ok(Label {
+        key: plain_text(alloc, key)?,
+        value: plain_text(alloc, value)?,
+    })
+}
+
+// The label that a part is.
+fn label(alloc: Global, part: &[u8]) -> Result<Label, WordFault>
+    ensures ok { IfOk result (λ label. label_of part.now ≡ Some label) }
+    ensures refused { IfErr result (IsWordFault (label_of part.now)) }
+{
+    let (key, behind) = cut(part, b'=');
+    let Some(rest) = behind else {
+        return Err(WordFault::Form);
+    };
+    match cut(rest, b'=') {
+        (value, None) => pair(alloc, key, value),
+        (_, Some(_)) => Err(WordFault::Form),
+    }
+}
+
+fn has_key(key: &[u8], labels: &[Label]) -> bool
+    ensures value { result ≡ has_key key.now labels.now }
+{
+    labels.iter().any(|label| label.key.as_bytes() == key)
+}
+
+// Keeps a label behind others.
+fn keep_label(labels: &mut Labels, label: Label) -> Result<(), WordFault>
+    ensures ok { OnOk result (with_label labels.old label ≡ Some labels.new) }
+    ensures refused { IfErr result (IsWordFault (with_label labels.old label)) }
+{
+    if labels.len() >= 4 || has_key(label.key.as_bytes(), labels.as_slice()) {
+        return Err(WordFault::Form);
+    }
+    labels.push(label)?;
+    Ok(())
+}
+
+fn listed(alloc: Global, word: &[u8]) -> Result<Labels, WordFault>
+    ensures ok { IfOk result (λ labels. labels_of word.now ≡ Some labels) }
+    ensures refused { IfErr result (IsWordFault (labels_of word.now)) }
+{
+    let mut labels = Labels::new(alloc);
+    let mut left = word;
+    loop {
+        let (part, behind) = cut(left, b',');
+        keep_label(&mut labels, label(alloc, part)?)?;
+        match behind {
+            None => return Ok(labels),
+            Some(rest) => left = rest,
+        }
+    }
+}
