@@ -1,4 +1,4 @@
-ghost use Rattle.std.specs.Prelude.{◌≡◌, ◌↔◌, ◌<◌, ◌≤◌, ℕ, List, true, Some, None, length};
+ghost use Rattle.std.specs.Prelude.{◌≡◌, ◌↔◌, ◌<◌, ◌≤◌, ◌∷◌, ℕ, List, [], true, false, Some, None, length};
 ghost use Rattle.std.specs.List.{Any};
 ghost use Rattle.pd_types.specs.BeatCheck.{first_fault};
 ghost use Rattle.pd_types.specs.declared.beat.BeatFault.{BeatFault};
@@ -6,7 +6,7 @@ ghost use Rattle.pd_types.specs.declared.region.Epoch.{Epoch};
 ghost use Rattle.pd_types.specs.declared.region.Peer.{Peer};
 ghost use Rattle.pd_types.specs.declared.region.RegionBeat.{RegionBeat};
 ghost use Rattle.region_tree.specs.Stale.{ids_of, put_beat, removed_by, stale_by};
-ghost use Rattle.heartbeat.specs.Counts.{is_on, leads_on};
+ghost use Rattle.heartbeat.specs.Counts.{is_on, leader_count, leads_on, region_count};
 ghost use Rattle.heartbeat.specs.Intakes.{intake_of, left_by};
 ghost use Rattle.heartbeat.specs.declared.intake.Intake.TheVariants as intakes;
 
@@ -37,4 +37,17 @@ pub fn a_region_counts_by_its_peers()
     ensures leader { (store : ℕ) (beat : RegionBeat) →
         (leads_on store beat ≡ true)
         ↔ Any (λ peer. (peer.id ≡ beat.leader) × (peer.store ≡ store)) beat.region.peers }
+{}
+
+/// Of one region, a store has one where the region counts for it, and one leader where its leader
+/// does.
+pub fn regions_and_leaders_are_counted()
+    ensures region { (store : ℕ) (beat : RegionBeat) →
+        is_on store beat ≡ true → region_count store (beat ∷ []) ≡ 1 }
+    ensures elsewhere { (store : ℕ) (beat : RegionBeat) →
+        is_on store beat ≡ false → region_count store (beat ∷ []) ≡ 0 }
+    ensures leader { (store : ℕ) (beat : RegionBeat) →
+        leads_on store beat ≡ true → leader_count store (beat ∷ []) ≡ 1 }
+    ensures follower { (store : ℕ) (beat : RegionBeat) →
+        leads_on store beat ≡ false → leader_count store (beat ∷ []) ≡ 0 }
 {}

@@ -9,5 +9,7 @@ mod standing;
 mod tests;
 
 pub use intake::Intake;
-pub use laws::{a_region_counts_by_its_peers, the_first_reason_is_answered};
+pub use laws::{
+    a_region_counts_by_its_peers, regions_and_leaders_are_counted, the_first_reason_is_answered,
+};
 pub use standing::Standing;

@@ -14,7 +14,8 @@ use Rattle.tso_model.specs.declared.view.Setup.{Setup}
 use Rattle.tso_model.specs.Ledger.{Climb, place}
 use Rattle.tso_model.specs.Sound.{IsSetup}
 use Rattle.tso_model.specs.Words.{Inside, passes}
-use Rattle.tso_core.specs.Laws.{Adds, IsAbove, IsFair, IsUpTo, Tells, seen_at, seen_by}
+use Rattle.tso_model.specs.OneHistory.{IsAbove}
+use Rattle.tso_core.specs.Laws.{Adds, IsFair, IsUpTo, Tells, seen_at, seen_by}
 use Rattle.tso_core.specs.Sound.{IsSound, HasDriver, HasClient}
 use Rattle.tso_core.specs.Asked.{IsCount}
 use Rattle.tso_core.specs.Steps.{Stepped}
@@ -36,7 +37,8 @@ use Rattle.pd_script.specs.declared.act.Line.{Line}
 use Rattle.pd_script.specs.declared.script.Mode.{Mode}
 use Rattle.pd_script.specs.declared.script.Script.{Script}
 use Rattle.pd_cluster.specs.Answers.{Answer, answer_text, answers_text, client_in, driver_in, named_cell, opening_cell, oracle_reply}
-use Rattle.pd_cluster.specs.History.{AreApart, HasPassed, IsFairAfter, LiesInOne, and_batch, batches_of, caller, opening_window, reply, windows_from, windows_of}
+use Rattle.tso_model.specs.OneHistory.{AreApart, LiesInOne}
+use Rattle.pd_cluster.specs.History.{HasPassed, IsFairAfter, and_batch, batches_of, caller, opening_window, reply, windows_from, windows_of}
 use Rattle.pd_cluster.specs.Outcome.{IsSafeRun, StaysBounded}
 use Rattle.pd_cluster.specs.Replay.{State, act_step, answers_from, answers_of, line_step, setup_of, start, state_after}
 

@@ -38,7 +38,7 @@ fn expect(
 }
 
 // Worked rows. In each line an act stands in front of `>` and its answer.
-const ROWS: [&str; 20] = [
+const ROWS: [&str; 22] = [
     "\
 lead 1 1000 > won term 1 lo 1000 hi 4000
 take 1 1 3 > got term 1 driver 1 first 262144001 last 262144003
@@ -180,6 +180,26 @@ hello 1 1 1000 a1 > store put
 tick 1 3999 > lost saved 7001 term 2
 alive 1 1 1000 > not-leading
 alive 1 2 1000 > unknown-store",
+    // examples/clock_steps_back.txt
+    "\
+lead 1 1000 > won term 1 lo 1000 hi 4000
+take 1 1 3 > got term 1 driver 1 first 262144001 last 262144003
+tick 1 900 > idle
+take 1 1 1 > got term 1 driver 1 first 262144004 last 262144004
+lead 1 500 > won term 2 lo 4001 hi 7001
+take 1 1 1 > got term 2 driver 1 first 1048838145 last 1048838145
+tick 1 4002 > idle
+tick 1 4003 > moved next 4003 hi 7001
+take 1 1 1 > got term 2 driver 1 first 1049362433 last 1049362433",
+    // examples/stale_heartbeat.txt
+    "\
+lead 1 1000 > won term 1 lo 1000 hi 4000
+hello 1 1 1000 tikv-1:20160 zone=east > store put
+beat 1 1 1001 1 - - 1 1 11 11:1:v > accepted removed 0 none
+beat 1 1 1002 1 - 6d 1 2 11 11:1:v > accepted removed 0 none
+beat 1 1 1003 2 6d - 1 2 21 21:1:v > accepted removed 0 none
+beat 1 1 1004 1 - - 1 1 11 11:1:v > stale conf 1 version 2
+beat 1 1 1005 2 - - 1 3 21 21:1:v > accepted removed 1 none",
     "",
 ];
 

@@ -1,15 +1,18 @@
 ghost use Rattle.std.specs.Prelude.{◌≡◌, ◌≢◌, ◌≤◌, ◌++◌, ◌∷◌, ℕ, List, [], Some, None, All, reverse};
 ghost use Rattle.std.specs.List.{Any};
 ghost use Rattle.pd_types.specs.declared.oracle.Actor.{Actor};
+ghost use Rattle.pd_types.specs.declared.region.RegionBeat.{RegionBeat};
 ghost use Rattle.pd_types.specs.declared.request.Request.TheVariants as ask;
+ghost use Rattle.pd_types.specs.declared.store.Label.{Label};
 ghost use Rattle.pd_types.specs.declared.store.StoreState.TheVariants as states;
 ghost use Rattle.region_tree.specs.Standing.{IsTable};
 ghost use Rattle.pd_state.specs.Known.{AreKnown};
-ghost use Rattle.pd_state.specs.Legal.{alive_reply, hello_reply, IsLegal, IsLegalAfter};
+ghost use Rattle.pd_state.specs.Legal.{alive_reply, first_reply, hello_reply, IsLegal, IsLegalAfter};
 ghost use Rattle.pd_state.specs.Since.{since};
 ghost use Rattle.pd_state.specs.State.{beats_of, clock_of, moment_of, part_after, part_of};
 ghost use Rattle.pd_state.specs.declared.reply.Reply.TheVariants as replies;
 ghost use Rattle.pd_state.specs.declared.entry.Entry.{Entry};
+ghost use Rattle.pd_state.specs.declared.part.Part.{Part};
 
 /// In a legal journal the reply of each entry, wherever it stands, is the first that applies over
 /// the entries before it.
@@ -57,4 +60,20 @@ pub fn who_is_heard()
     ensures silent { alive_reply (Some states.Tombstone) ≡ replies.Tombstone }
     ensures last { hello_reply None 255 ≡ replies.StorePut }
     ensures limit { hello_reply None 256 ≡ replies.Limit }
+{}
+
+/// A Term is answered alike with and without a term before it: no stored stores, and the default
+/// rule alone. Without a term nothing else is served.
+pub fn a_term_tells_no_stores_and_one_rule()
+    ensures first { (term moment : ℕ) →
+        first_reply None (ask.Term term moment) ≡ replies.Term term 0 1 }
+    ensures again { (part : Part) (term moment : ℕ) →
+        first_reply (Some part) (ask.Term term moment) ≡ replies.Term term 0 1 }
+    ensures hello { (store moment : ℕ) (address : List ℕ) (labels : List Label) →
+        first_reply None (ask.Hello store moment address labels) ≡ replies.NotLeading }
+    ensures alive { (store moment : ℕ) →
+        first_reply None (ask.Alive store moment) ≡ replies.NotLeading }
+    ensures beat { (store moment : ℕ) (beat : RegionBeat) →
+        first_reply None (ask.Beat store moment beat) ≡ replies.NotLeading }
+    ensures retire { first_reply None ask.Retire ≡ replies.NotLeading }
 {}

@@ -1,7 +1,8 @@
-//! Records of the placement driver: timestamps, regions, stores, placement rules, steps, and lists of them.
+//! Records of the placement driver: timestamps, regions, stores, placement rules, steps, and lists of them; and the gate that a run asks.
 #![tactic(auto)]
 
 mod beat;
+mod gate;
 mod laws;
 mod lists;
 mod memory;
@@ -17,6 +18,7 @@ mod tests;
 mod text;
 
 pub use beat::{BeatFault, MAX_KEY, MAX_PEERS, check_beat};
+pub use gate::{Gate, OpenGate};
 pub use laws::{each_role_votes_or_learns_or_neither, keys_go_by_their_bytes};
 pub use lists::{
     Batches, Bytes, Constraints, Downs, Duplicate, Ids, Keys, Labels, Peers, Rules, Seq, Steps,

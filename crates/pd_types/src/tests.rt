@@ -1,7 +1,7 @@
 use crate::{
-    BeatFault, Bytes, Constraints, DownPeer, Downs, Duplicate, Epoch, Ids, Label, Labels, Peer,
-    Region, RegionBeat, Request, Role, Rule, RuleRole, Seq, Step, StoreRec, StoreState, Text,
-    Texts, check_beat, pack, unpack,
+    Actor, BeatFault, Bytes, Constraints, DownPeer, Downs, Duplicate, Epoch, Gate, Ids, Label,
+    Labels, OpenGate, Peer, Region, RegionBeat, Request, Role, Rule, RuleRole, Seq, Step, StoreRec,
+    StoreState, Text, Texts, check_beat, pack, unpack,
 };
 use std::alloc::{AllocError, Global};
 use std::process::Abort;
@@ -213,4 +213,13 @@ fn a_fault_is_printed_in_words(rt: HostRuntime) -> Result<(), Fail> {
         assert_eq!(rt; printed.as_str(), words);
     }
     Ok(())
+}
+
+#[test]
+fn the_open_gate_holds_nobody(rt: HostRuntime) {
+    let gate = OpenGate;
+    for number in [1, 65_536] {
+        assert!(rt; !gate.hold(Actor::Client(3), number));
+        gate.done(Actor::Client(3), number);
+    }
 }

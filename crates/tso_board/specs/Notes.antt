@@ -1,5 +1,6 @@
 -- What a note belongs to and tells.
 use Rattle.std.specs.Prelude.{◌≡◌}
+use Rattle.atomic_table.specs.Seated.{TableId}
 use Rattle.pd_types.specs.declared.oracle.Seen.{Seen}
 use Rattle.tso_board.specs.declared.board.Board.{Board}
 use Rattle.tso_board.specs.declared.note.Note.{Note}
@@ -11,3 +12,7 @@ IsNoteOf n b = n.seat.table_id ≡ b.table.shared.table_id
 -- what its sender had seen
 abbrev pub note_seen : Note → Seen
 note_seen n = n.seen
+
+-- which board it comes from
+abbrev pub note_board : Note → TableId
+note_board n = n.seat.table_id

@@ -5,14 +5,14 @@ ghost use Rattle.tso_model.specs.Steps.{May, hand, view_after};
 ghost use Rattle.tso_model.specs.Words.{cursor_at};
 ghost use Rattle.tso_board.specs.Actors.{IsClientView};
 
-use crate::numbers::{greater, hand_of, is_passing};
+use crate::numbers::hand_of;
 use crate::plays::{Arms, Count, Draws, Looks, Meets, Notes};
 use crate::{Board, Note};
 use atomic_table::Seat;
 use pd_types::{Batch, NoMemory, Seen};
 use std::alloc::Global;
 use std::marker::Brand;
-use tso_model::{Grant, Limit, View};
+use tso_model::{Grant, Limit, View, greater, is_passing};
 
 /// The pass of a client: it makes the client's steps on the board, and keeps what the client has
 /// seen and drawn.

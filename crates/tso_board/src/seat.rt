@@ -1,14 +1,14 @@
-ghost use Rattle.std.specs.Prelude.{◌≡◌, ℕ, ◌+◌, ◌*◌, ◌<◌, ◌^◌, [], ◌≢◌, false, true, None, Some, IfErr, IfOk, OnOk, OnErr, ◌≤◌};
+ghost use Rattle.std.specs.Prelude.{◌≡◌, ℕ, ◌+◌, ◌*◌, ◌<◌, ◌^◌, [], ◌≢◌, false, true, None, Some, IfErr, IfOk, IfSome, OnOk, OnErr, ◌≤◌};
 ghost use Rattle.std.specs.Option.{ForSome};
 ghost use Rattle.tso_board.specs.Actors.{IsDriverView};
 
 use crate::Board;
-use crate::numbers::{lengthened, marks, packed, unpacked};
+use crate::numbers::marks;
 use crate::plays::{Campaigns, Publishes, Raises, Reads, Resigns, Saves};
 use atomic_table::Seat;
 use pd_types::{CellWord, NoMemory, Window};
 use std::alloc::Global;
-use tso_model::{Claim, View};
+use tso_model::{Claim, View, cell_in, lengthened, packed};
 
 /// The seat of a driver: it makes the driver's steps on the board, and keeps what the driver knows.
 #[derive(Drop)]
@@ -85,6 +85,7 @@ impl DriverSeat {
     /// The held window, or none where no term is held.
     pub fn held(&self) -> Option<Window>
         ensures value { result ≡ holding (seat_view self.now) }
+        ensures range { IfSome result (λ w. w.hi < 2 ^ 45) }
     {
         let claim = self.latest?;
         self.holds.then_some(claim.window)
@@ -98,7 +99,7 @@ impl DriverSeat {
         ensures spare { seat_spare self.new ≡ seat_spare self.old }
     {
         let found = board.table.shared.load::<Reads>(&mut self.seat, 0);
-        self.cell = unpacked(found);
+        self.cell = cell_in(found);
         self.cell
     }
 
@@ -111,6 +112,7 @@ impl DriverSeat {
         ensures board { IsSeatOf self.new board.now }
         ensures claimed { IfOk result (λ term. Claimed term (seat_view self.old) (seat_view self.new)) }
         ensures missed { IfErr result (λ found. Missed found (seat_view self.old) (seat_view self.new)) }
+        ensures other { IfErr result (λ found. found ≢ (seat_view self.old).cell) }
         ensures spare { seat_spare self.old ≤ seat_spare self.new + 1 }
         ensures err { OnErr result (seat_spare self.new ≡ seat_spare self.old) }
     {
@@ -121,7 +123,7 @@ impl DriverSeat {
             .shared
             .compare_exchange::<Campaigns>(&mut self.seat, 0, known, known + 1);
         if found != known {
-            self.cell = unpacked(found);
+            self.cell = cell_in(found);
             return Err(self.cell);
         }
         if let Some(claim) = self.latest {
@@ -169,7 +171,7 @@ impl DriverSeat {
             .shared
             .compare_exchange::<Saves>(&mut self.seat, 0, held, new);
         if found != held {
-            self.cell = unpacked(found);
+            self.cell = cell_in(found);
             return Err(self.cell);
         }
         self.cell = CellWord {

@@ -15,7 +15,8 @@ use Rattle.tso_core.specs.declared.reply.Due.TheVariants.{Draw}
 use Rattle.tso_core.specs.Whole.{Whole, place_of_client, view_at, found_by}
 use Rattle.tso_core.specs.Rows.{due_at}
 use Rattle.tso_core.specs.Sound.{IsSound, HasClient}
-use Rattle.tso_core.specs.Laws.{AreLedger, AreBounded, IsAbove, IsGranted, DrawsGrant}
+use Rattle.tso_model.specs.OneHistory.{IsAbove}
+use Rattle.tso_core.specs.Laws.{AreLedger, AreBounded, IsGranted, DrawsGrant}
 use Rattle.tso_core.proofs.Dues.{draws}
 use Rattle.tso_core.proofs.Drawn.{own, inside}
 use Rattle.tso_core.proofs.Places.{at_get}

@@ -23,7 +23,8 @@ use Rattle.tso_core.specs.Rows.{due_at, finished, won, moved, lead_of, lead_read
 use Rattle.tso_core.specs.Notes.{heard_from, note_left}
 use Rattle.tso_core.specs.Sound.{IsSound, HasClient}
 use Rattle.tso_core.specs.Asked.{IsCount}
-use Rattle.tso_core.specs.Laws.{Adds, BatchesGrow, IsAbove, TakesGrant}
+use Rattle.tso_model.specs.OneHistory.{IsAbove}
+use Rattle.tso_core.specs.Laws.{Adds, BatchesGrow, TakesGrant}
 use Rattle.tso_core.proofs.Dues.{is_due}
 use Rattle.tso_core.proofs.Drawn.{inside, look_sound, arm_sound}
 use Rattle.tso_core.proofs.Fair.{Fair, bool_cases, driver_fair, looked_fair, arm_fair}

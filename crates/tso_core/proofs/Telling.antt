@@ -31,7 +31,8 @@ use Rattle.tso_core.specs.Notes.{tell_of, hear_of, heard_from, note_left}
 use Rattle.tso_core.specs.Sound.{IsSound, HasDriver, HasClient}
 use Rattle.tso_core.specs.Asked.{HasActor, IsAsked, IsCount}
 use Rattle.tso_core.specs.Opened.{opened}
-use Rattle.tso_core.specs.Laws.{Adds, IsAbove, IsFair, Tells, EachCallTells, IsNew, IsUpTo, learned, seen_at, seen_of, seen_by, client_of, driver_of}
+use Rattle.tso_model.specs.OneHistory.{IsAbove}
+use Rattle.tso_core.specs.Laws.{Adds, IsFair, Tells, EachCallTells, IsNew, IsUpTo, learned, seen_at, seen_of, seen_by, client_of, driver_of}
 use Rattle.tso_core.proofs.Dues.{is_due, draws}
 use Rattle.tso_core.proofs.Drawn.{inside, look_sound, arm_sound, draw_sound}
 use Rattle.tso_core.proofs.Fair.{Fair, again_passed, take_again_passed}

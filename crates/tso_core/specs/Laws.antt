@@ -5,12 +5,12 @@ use Rattle.pd_types.specs.declared.oracle.Actor.TheVariants.{Driver, Client, Sto
 use Rattle.pd_types.specs.declared.oracle.Batch.{Batch}
 use Rattle.pd_types.specs.declared.oracle.Seen.{Seen}
 use Rattle.pd_types.specs.declared.oracle.Window.{Window}
-use Rattle.pd_types.specs.Batch.{first_of}
 use Rattle.tso_model.specs.declared.entries.Claim.{Claim}
 use Rattle.tso_model.specs.declared.view.Setup.{Setup}
 use Rattle.tso_model.specs.Words.{opening_claim, cell_of, cursor_at, window, passes}
 use Rattle.tso_model.specs.Moves.{greater, nothing_seen}
 use Rattle.tso_model.specs.Ledger.{IsWindowList, IsDrawList, place}
+use Rattle.tso_model.specs.OneHistory.{IsAbove}
 use Rattle.tso_core.specs.declared.reply.Kind.{Kind}
 use Rattle.tso_core.specs.declared.reply.Kind.TheVariants.{Read, Campaign, Save, Probe, Raise, Publish, Resign, Look, Arm, Draw}
 use Rattle.tso_core.specs.declared.reply.Due.{Due}
@@ -35,11 +35,6 @@ pub record AreLedger (w : Whole) : Type 0 where
 -- a cursor stands at most 64 milliseconds past the saved end, however many draws were refused
 abbrev pub AreBounded : Whole → Type 0
 AreBounded w = (d : ℕ) → HasDriver w.setup d → slice_index w.words (cursor_at d) ≤ ((cell_of (slice_index w.words 0)).saved + 64) * 262144
-
--- The batch is above what was seen: its term isn't lower, and its first timestamp is above the last seen one, whatever the terms are
-pub record IsAbove (seen : Seen) (b : Batch) : Type 0 where
-  pub term : seen.term ≤ b.term
-  pub last : seen.last < first_of b
 
 -- A batch that a client gets is above all that it had seen, notes included, and is kept among the others
 pub record IsGranted (w : Whole) (c : ℕ) (b : Batch) : Type 0 where

@@ -11,9 +11,8 @@ ghost use Rattle.tso_core.specs.Machine.{whole_of, RoomAt, UsesOneAt};
 use crate::decided::{armed_reply, look_reply};
 use crate::lists::Lists;
 use crate::machine::Machine;
-use crate::plan::is_passing;
 use crate::{Due, Reply};
-use tso_model::WordStep;
+use tso_model::{WordStep, is_passing};
 
 impl Machine {
     /// The client's place among the seats.

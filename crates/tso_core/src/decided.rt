@@ -1,13 +1,13 @@
 // What a driver answers to the word that its step found, and where it stands then.
 ghost use Rattle.std.specs.Prelude.{◌≡◌, ◌<◌, ◌≤◌, ◌+◌, ◌^◌};
-ghost use Rattle.tso_model.specs.Words.{cell_of};
 ghost use Rattle.tso_core.specs.Steps.{read_decides, campaign_decides, save_decides, raise_decides, probe_decides, moves_to, looked_reply, arm_reply};
 ghost use Rattle.tso_model.specs.Plan.{end_of};
 
-use crate::plan::{is_passing, is_past_clock, is_saving, next_of_lead, next_of_tick};
 use crate::{Due, Reply, Turn};
 use pd_types::{CellWord, LOGICAL, Seen, Window};
-use tso_model::AHEAD_MS;
+use tso_model::{
+    AHEAD_MS, cell_in, is_passing, is_past_clock, is_saving, next_of_lead, next_of_tick, packed,
+};
 
 // The greatest term.
 const LAST_TERM: u64 = 262_143;
@@ -17,16 +17,6 @@ const LAST_TERM: u64 = 262_143;
 pub struct Decided {
     pub reply: Reply,
     pub turn: Turn,
-}
-
-/// The cell that this word holds.
-pub fn cell_in(word: u64) -> CellWord
-    ensures value { result ≡ cell_of word }
-{
-    CellWord {
-        saved: word / LOGICAL,
-        term: word % LOGICAL,
-    }
 }
 
 /// After a read of the cell at a moment.
@@ -63,7 +53,7 @@ pub fn after_campaign(known: CellWord, next: u64, found: u64) -> Decided
     requires term { known.term < 262144 }
     ensures value { result ≡ campaign_decides known next found }
 {
-    if found == known.saved * LOGICAL + known.term {
+    if found == packed(known.saved, known.term) {
         return Decided {
             reply: Reply::Claimed {
                 term: known.term + 1,
@@ -90,7 +80,7 @@ pub fn after_save(own: Window, next: u64, found: u64) -> Decided
     requires clock { end_of next < 2 ^ 45 }
     ensures value { result ≡ save_decides own next found }
 {
-    if found == own.hi * LOGICAL + own.term {
+    if found == packed(own.hi, own.term) {
         return Decided {
             reply: Reply::Saved {
                 hi: next + AHEAD_MS,

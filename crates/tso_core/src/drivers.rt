@@ -6,14 +6,12 @@ ghost use Rattle.tso_core.specs.Steps.{read_of, campaign_of, save_of, raise_of, 
 ghost use Rattle.tso_core.specs.Sound.{IsSound, HasDriver};
 ghost use Rattle.tso_core.specs.Machine.{whole_of, RoomAt, UsesOneAt};
 
-use crate::decided::{
-    Decided, after_campaign, after_probe, after_raise, after_read, after_save, cell_in,
-};
+use crate::decided::{Decided, after_campaign, after_probe, after_raise, after_read, after_save};
 use crate::lists::Lists;
 use crate::machine::Machine;
 use crate::{Reply, Turn};
 use pd_types::LOGICAL;
-use tso_model::{AHEAD_MS, WordStep};
+use tso_model::{AHEAD_MS, WordStep, cell_in};
 
 impl Machine {
     /// A driver at rest reads the cell at a moment.

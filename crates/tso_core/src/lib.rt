@@ -11,7 +11,6 @@ mod machine;
 mod notes;
 mod opening;
 mod oracle;
-mod plan;
 mod post;
 mod reply;
 mod rows;

@@ -8,12 +8,11 @@ ghost use Rattle.tso_model.specs.declared.step.WordStep.TheVariants.{AddArmed};
 ghost use Rattle.tso_core.specs.Seat.{view_of, HandFits, Suits};
 ghost use Rattle.tso_core.specs.Lists.{HasRows, UsesRow};
 
-use crate::plan::{is_passing, lengthened};
 use crate::seat::Seat;
 use pd_types::{Batch, Batches, LOGICAL, NoMemory, Window, Windows};
 use std::alloc::Global;
 use std::mem;
-use tso_model::WordStep;
+use tso_model::{WordStep, is_passing, lengthened};
 
 /// The lists of a run, with the room that they have.
 #[derive(Drop)]

@@ -12,9 +12,9 @@ use crate::Turn;
 use crate::machine::Machine;
 use crate::post::Post;
 use crate::seat::Seat;
-use pd_types::{LOGICAL, NoMemory};
+use pd_types::NoMemory;
 use std::alloc::Global;
-use tso_model::Setup;
+use tso_model::{Setup, packed};
 
 // What each client may arm.
 const CLIENT_QUOTA: u64 = 262_144;
@@ -49,7 +49,7 @@ fn opening_words(alloc: Global, setup: Setup) -> Result<Vec<u64>, NoMemory>
     ensures words { IfOk result (λ words. words.items ≡ first_words setup) }
 {
     let mut words = vec![in alloc; 0u64; 2 * setup.drivers as usize + 1]?;
-    words[0] = setup.cell.saved * LOGICAL + setup.cell.term;
+    words[0] = packed(setup.cell.saved, setup.cell.term);
     Ok(words)
 }
 

@@ -2,12 +2,13 @@
 ghost use Rattle.std.specs.Prelude.{◌≡◌, ℕ, ◌+◌, ◌*◌, ◌<◌, ◌≤◌, ◌^◌, true, length};
 ghost use Rattle.tso_model.specs.History.{greatest};
 ghost use Rattle.tso_core.specs.Cached.{AreSums};
-ghost use Rattle.tso_model.specs.Moves.{greater};
 
-use crate::plan::{is_passing, lengthened};
 use pd_types::{Batch, CellWord, LOGICAL, NoMemory, Seen, Window};
 use std::alloc::Global;
-use tso_model::{Added, Claim, Found, Grant, Limit, Look, Published, Refusal, Start, WordStep};
+use tso_model::{
+    Added, Claim, Found, Grant, Limit, Look, Published, Refusal, Start, WordStep, cell_in, greater,
+    is_passing, lengthened, packed,
+};
 
 /// A view in memory. Before a step is made its lists have room, so a step takes no memory.
 #[derive(Drop)]
@@ -99,7 +100,7 @@ impl Seat {
     {
         self.took_drivers.push_reserved(0);
         self.took_clients.push_reserved(0);
-        self.seen = greatest_of(self.seen, seen);
+        self.seen = greater(self.seen, seen);
     }
 
     /// Ends a note that was heard.
@@ -165,7 +166,7 @@ impl Seat {
             }
             WordStep::SaveEnd { hi } => {
                 if found == self.held_word() {
-                    hi * LOGICAL + self.held().term
+                    packed(hi, self.held().term)
                 } else {
                     found
                 }
@@ -259,7 +260,7 @@ impl Seat {
         requires fits { CellFits (view_of self.now) }
         ensures value { result ≡ cell_word self.now.cell }
     {
-        self.cell.saved * LOGICAL + self.cell.term
+        packed(self.cell.saved, self.cell.term)
     }
 
     /// The word of its window's end and term.
@@ -268,17 +269,14 @@ impl Seat {
         ensures value { result ≡ packed (held (view_of self.now)).hi (held (view_of self.now)).term }
     {
         let window = self.held();
-        window.hi * LOGICAL + window.term
+        packed(window.hi, window.term)
     }
 
     fn know(&mut self, found: u64)
         ensures view { view_of self.new ≡ knows (cell_of found) (view_of self.old) }
         ensures room { UsesOne self.old self.new }
     {
-        self.cell = CellWord {
-            saved: found / LOGICAL,
-            term: found % LOGICAL,
-        };
+        self.cell = cell_in(found);
     }
 
     fn claim(&mut self)
@@ -527,17 +525,4 @@ impl Seat {
             self.grant(limit, at)
         }
     }
-}
-
-// The greater pair, by term and then by the last timestamp.
-fn greatest_of(one: Seen, other: Seen) -> Seen
-    ensures value { result ≡ greater one other }
-{
-    if one.term < other.term {
-        return other;
-    }
-    if other.term < one.term {
-        return one;
-    }
-    if one.last < other.last { other } else { one }
 }

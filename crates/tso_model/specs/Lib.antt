@@ -7,3 +7,4 @@ pub mod Plan
 pub mod Sound
 pub mod Ledger
 pub mod Laws
+pub mod OneHistory

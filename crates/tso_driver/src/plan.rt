@@ -1,11 +1,11 @@
-// When a lead or a tick goes where.
-ghost use Rattle.std.specs.Prelude.{◌≡◌, ◌<◌, ◌≤◌, ◌+◌, ◌^◌};
-ghost use Rattle.tso_model.specs.Words.{passes};
-ghost use Rattle.tso_model.specs.Steps.{saved_window};
-ghost use Rattle.tso_model.specs.Plan.{lead_next, tick_next, past_clock, saves_for};
+// When a lead or a tick goes where. (In the product these stand in tso_core.)
+ghost use Rattle.std.specs.Prelude.{◌≡◌, ◌<◌, ◌^◌};
+ghost use Rattle.tso_model.specs.Plan.{lead_next, past_clock, saves_for, tick_next};
 
-use pd_types::{LOGICAL, Window};
-use tso_model::AHEAD_MS;
+use pd_types::LOGICAL;
+
+/// How far ahead a window's end is saved, in milliseconds.
+pub use tso_model::AHEAD_MS;
 
 // Saved ends are below this, in milliseconds.
 const CLOCK_END: u64 = 1 << 45;
@@ -50,26 +50,4 @@ pub fn is_saving(next: u64, hi: u64) -> bool
     ensures value { result ≡ saves_for next hi }
 {
     hi.saturating_sub(next) <= 1
-}
-
-/// Whether `n` more than this cursor are at the end or past it, or past the logical part.
-pub fn is_passing(at: u64, hi: u64, n: u64) -> bool
-    requires cursor { at < 2 ^ 63 + 2 ^ 26 }
-    requires end { hi < 2 ^ 45 }
-    requires count { n ≤ 262144 }
-    ensures value { result ≡ passes at hi n }
-{
-    at + n >= hi * LOGICAL || at % LOGICAL + n >= LOGICAL
-}
-
-/// The window with this end. The first save of its term sets the start too.
-pub fn lengthened(hi: u64, window: Window) -> Window
-    ensures value { result ≡ saved_window hi window }
-{
-    let lo = if window.lo == window.hi {
-        hi.saturating_sub(AHEAD_MS).max(window.hi)
-    } else {
-        window.lo
-    };
-    Window { lo, hi, ..window }
 }

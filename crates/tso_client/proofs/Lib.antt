@@ -1,0 +1,3 @@
+mod Taking
+mod Posting
+mod Slipping

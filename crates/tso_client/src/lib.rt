@@ -1,0 +1,16 @@
+//! Clients of the oracle: a whole draw, the split of a batch, and the post by which clients leave notes
+//! for each other.
+#![tactic(auto)]
+
+mod batch;
+mod draw;
+mod entry;
+mod log;
+mod name;
+mod post;
+
+pub use batch::split;
+pub use draw::{DrawFault, take};
+pub use entry::{PostEntry, PostJournal, PostWhat};
+pub use name::BoardName;
+pub use post::{Post, Slip, Slips};

@@ -1,0 +1,4 @@
+pub mod Settled
+pub mod Drivers
+pub mod Driving
+pub mod Moments

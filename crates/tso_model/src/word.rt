@@ -1,0 +1,40 @@
+// Words of the oracle as numbers, and what an actor has seen.
+ghost use Rattle.std.specs.Prelude.{◌≡◌, ◌<◌, ◌^◌};
+ghost use Rattle.tso_model.specs.Moves.{greater};
+ghost use Rattle.tso_model.specs.Words.{cell_of, packed};
+
+use pd_types::{CellWord, LOGICAL, Seen};
+
+/// The word of a time, in milliseconds, and a term.
+pub fn packed(time: u64, term: u64) -> u64
+    requires time { time < 2 ^ 45 }
+    requires term { term < 262144 }
+    ensures value { result ≡ packed time term }
+{
+    time * LOGICAL + term
+}
+
+/// The cell that a word holds.
+pub fn cell_in(word: u64) -> CellWord
+    ensures value { result ≡ cell_of word }
+    ensures saved { word < 2 ^ 63 → result.saved < 2 ^ 45 }
+    ensures term { result.term < 262144 }
+{
+    CellWord {
+        saved: word / LOGICAL,
+        term: word % LOGICAL,
+    }
+}
+
+/// The greater of two pairs, by term and then by the last timestamp.
+pub fn greater(one: Seen, other: Seen) -> Seen
+    ensures value { result ≡ greater one other }
+{
+    if one.term < other.term {
+        return other;
+    }
+    if other.term < one.term {
+        return one;
+    }
+    if one.last < other.last { other } else { one }
+}

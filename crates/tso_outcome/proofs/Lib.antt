@@ -1,0 +1,13 @@
+pub mod Codes
+pub mod Passes
+pub mod Chains
+pub mod Ended
+pub mod Above
+pub mod Drives
+pub mod Known
+pub mod Again
+pub mod Terms
+pub mod Plans
+pub mod Safe
+pub mod Numbers
+pub mod Finish

@@ -1,0 +1,10 @@
+pub mod Drives
+pub mod Clients
+pub mod Runs
+pub mod Windows
+pub mod Batches
+pub mod Refusals
+pub mod Terms
+pub mod Lawful
+pub mod Safe
+pub mod Ends
