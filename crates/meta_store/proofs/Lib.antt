@@ -6,3 +6,4 @@ pub mod Refines
 pub mod Firsts
 pub mod Stored
 pub mod Verdicts
+pub mod Prefixes

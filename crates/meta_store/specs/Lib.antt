@@ -4,3 +4,4 @@ pub mod Places
 pub mod Past
 pub mod Steps
 pub mod Stores
+pub mod Asked

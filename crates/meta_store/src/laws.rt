@@ -1,5 +1,5 @@
 // What the definitions come to.
-ghost use Rattle.std.specs.Prelude.{◌≡◌, ◌≢◌, ◌+◌, ◌<◌, ◌≤◌, ℕ, Bool, true, false, List, [], ◌∷◌, ◌++◌, length, Some, None, All};
+ghost use Rattle.std.specs.Prelude.{◌≡◌, ◌≢◌, ◌+◌, ◌<◌, ◌≤◌, ℕ, Bool, true, false, List, [], ◌∷◌, ◌++◌, drop, length, Some, None, All};
 ghost use Rattle.meta_store.specs.declared.fault.MetaFault.TheVariants as faults;
 ghost use Rattle.meta_store.specs.declared.record.Cell.{Cell};
 ghost use Rattle.meta_store.specs.declared.record.MetaCall.{MetaCall};
@@ -7,6 +7,7 @@ ghost use Rattle.meta_store.specs.declared.record.MetaCall.TheVariants as calls;
 ghost use Rattle.meta_store.specs.declared.record.MetaEntry.{MetaEntry};
 ghost use Rattle.meta_store.specs.declared.record.MetaVerdict.{MetaVerdict};
 ghost use Rattle.meta_store.specs.declared.record.MetaVerdict.TheVariants as verdicts;
+ghost use Rattle.meta_store.specs.Cells.{begins_with};
 ghost use Rattle.meta_store.specs.Doors.{answer_of, said_of};
 ghost use Rattle.meta_store.specs.Past.{AreRecords, IsExpected, Refused, announced, counter_of, entry_of, fence_of, is_accepted, is_full, is_of, is_write, lead_verdict, record_of, records_of, revision_of, term_of, verdict_of, write_verdict};
 
@@ -133,6 +134,12 @@ pub fn the_last_write_of_a_key_counts()
 /// What an accepted lead hands out are exactly the records that looking back finds, each key once.
 pub fn all_records_are_handed_out()
     ensures records { (past : List MetaEntry) → AreRecords past (records_of past) }
+{}
+
+/// A key begins with a prefix exactly where the prefix stands first in it.
+pub fn a_prefix_stands_first()
+    ensures begins { (prefix rest : List ℕ) → begins_with prefix (prefix ++ rest) ≡ true }
+    ensures only { (prefix key : List ℕ) → begins_with prefix key ≡ true → key ≡ prefix ++ drop (length prefix) key }
 {}
 
 /// The fence is the greatest term of the accepted leads, and 0 without one.

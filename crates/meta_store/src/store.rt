@@ -1,7 +1,8 @@
 // The stored record of a store.
-ghost use Rattle.std.specs.Prelude.{◌≡◌, ◌<◌, ◌∷◌, [], ◌++◌, ℕ, List, IfOk, OnOk, MatchOption, Some, None};
+ghost use Rattle.std.specs.Prelude.{◌≡◌, ◌<◌, ◌∷◌, [], ◌++◌, ℕ, List, codes, IfOk, OnOk, MatchOption, Some, None};
 ghost use Rattle.std.specs.Option.{option_and_then};
 ghost use Rattle.pd_types.specs.declared.store.StoreRec.{StoreRec};
+ghost use Rattle.pd_types.specs.declared.store.StoreState.TheVariants.{Up, Offline, Tombstone};
 ghost use Rattle.pd_lines.specs.Labels.{label_text, labels_text};
 ghost use Rattle.meta_store.specs.Stores.{IsStore, fields_of, id_of, labels_word, state_of, state_word, store_by, store_bytes, store_key, store_of, stored_labels};
 
@@ -51,6 +52,14 @@ pub fn stores_are_read_as_they_are_written()
         IsStore store × (key ≡ store_key store.id) × (bytes ≡ store_bytes store) }
     ensures written { (store : StoreRec) → IsStore store →
         store_of (store_key store.id) (store_bytes store) ≡ Some store }
+{}
+
+/// How stores are spelled, by one of each state.
+pub fn a_stored_store_is_spelled()
+    ensures key { store_key 12 ≡ codes "store/00000000000000000012" }
+    ensures up { store_bytes (record { id = 12; address = codes "a1"; labels = record { key = codes "zone"; value = codes "z1" } ∷ record { key = codes "k"; value = codes "v" } ∷ []; state = Up }) ≡ codes "up a1 zone=z1,k=v" }
+    ensures offline { store_bytes (record { id = 12; address = codes "h:1"; labels = []; state = Offline }) ≡ codes "offline h:1 -" }
+    ensures tombstone { store_bytes (record { id = 12; address = codes "h"; labels = record { key = codes "a"; value = codes "b" } ∷ []; state = Tombstone }) ≡ codes "tombstone h a=b" }
 {}
 
 fn state_word(state: StoreState) -> &'static [u8]

@@ -1,5 +1,6 @@
 use crate::{
-    Cells, Meta, MetaFault, id_text, read_id_text, read_store_text, store_key, store_text,
+    Cells, Meta, MetaFault, MetaVerdict, ask_delete, ask_lead, ask_put, id_text, read_id_text,
+    read_store_text, store_key, store_text,
 };
 use pd_types::{Bytes, Label, Labels, NoMemory, StoreRec, StoreState, Text};
 use std::alloc::Global;
@@ -132,6 +133,29 @@ fn a_deleted_key_is_not_handed_out(rt: HostRuntime) -> Result<(), Fail> {
     assert_eq!(rt; cells.len(), 1);
     assert_eq!(rt; cells.as_slice()[0].revision, 2);
     Ok(())
+}
+
+#[test]
+fn a_door_is_asked_and_answers(rt: HostRuntime) -> Result<(), Fail> {
+    let alloc = rt.alloc();
+    let mut meta = Meta::new(alloc);
+    let put = ask_put(alloc, &mut meta, 1, 1, key_of(alloc)?, 0, key_of(alloc)?)?;
+    assert_eq!(rt; put.verdict, MetaVerdict::Accepted { revision: 1 });
+    let lead = ask_lead(alloc, &mut meta, 2, 3)?;
+    assert_eq!(rt; lead.verdict, MetaVerdict::Accepted { revision: 0 });
+    assert_eq!(rt; lead.cells.len(), 1);
+    let old = ask_delete(alloc, &mut meta, 1, 1, key_of(alloc)?, 1)?;
+    assert_eq!(rt; old.verdict, MetaVerdict::OldTerm { fence: 3 });
+    let conflict = ask_put(alloc, &mut meta, 2, 3, key_of(alloc)?, 7, key_of(alloc)?)?;
+    assert_eq!(rt; conflict.verdict, MetaVerdict::Conflict { found: 1 });
+    let gone = ask_delete(alloc, &mut meta, 2, 3, key_of(alloc)?, 1)?;
+    assert_eq!(rt; gone.verdict, MetaVerdict::Accepted { revision: 2 });
+    assert_eq!(rt; meta.journal().len(), 5);
+    Ok(())
+}
+
+fn key_of(alloc: Global) -> Result<Bytes, NoMemory> {
+    Ok(Bytes::of(b"a".to_vec(alloc)?))
 }
 
 #[test]

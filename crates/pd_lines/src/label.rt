@@ -1,7 +1,8 @@
 // Words that list labels.
-ghost use Rattle.std.specs.Prelude.{◌≡◌, ◌<◌, ◌∷◌, [], ℕ, List, length, IfOk, IfErr, OnOk, Some};
+ghost use Rattle.std.specs.Prelude.{◌≡◌, ◌<◌, ◌∷◌, ◌++◌, [], ℕ, List, codes, length, replicate, true, false, is_some, IfOk, IfErr, OnOk, Some, None};
 ghost use Rattle.pd_types.specs.declared.store.Label.{Label};
 ghost use Rattle.pd_lines.specs.Labels.{AreLabels, has_key, label_by, label_of, labels_of, labels_text, with_label};
+ghost use Rattle.pd_lines.specs.Plain.{address_of, is_plain};
 ghost use Rattle.pd_lines.specs.Refused.{IsWordFault};
 
 use crate::cut;
@@ -28,6 +29,18 @@ pub fn labels_are_read_as_they_are_written()
         AreLabels labels × (0 < length labels) × (word ≡ labels_text labels) }
     ensures written { (labels : List Label) → AreLabels labels → 0 < length labels →
         labels_of (labels_text labels) ≡ Some labels }
+{}
+
+/// An address has 1 to 64 plain characters, the key and the value of a label have 1 to 32; a fifth
+/// label, a key twice, an empty part or another byte spell none.
+pub fn addresses_and_labels_have_their_bounds()
+    ensures plain { is_plain 64 (codes "AZaz09._:/-") ≡ true }
+    ensures other { (is_plain 64 (codes "a b") ≡ false) × (is_plain 64 (codes "a,b") ≡ false) × (is_plain 64 (codes "a=b") ≡ false) }
+    ensures address { (is_some (address_of (replicate 64 97)) ≡ true) × (address_of (replicate 65 97) ≡ None) × (address_of [] ≡ None) }
+    ensures label { labels_of (codes "k=v") ≡ Some (record { key = codes "k"; value = codes "v" } ∷ []) }
+    ensures lengths { (is_some (labels_of (replicate 32 97 ++ codes "=v")) ≡ true) × (labels_of (replicate 33 97 ++ codes "=v") ≡ None) × (labels_of (codes "k=") ≡ None) }
+    ensures four { (is_some (labels_of (codes "a=1,b=2,c=3,d=4")) ≡ true) × (labels_of (codes "a=1,b=2,c=3,d=4,e=5") ≡ None) }
+    ensures twice { labels_of (codes "a=1,a=2") ≡ None }
 {}
 
 // The label of a key and a value.

@@ -12,7 +12,9 @@ mod words;
 
 pub use hexadecimal::{key, keys_are_spelled_in_hexadecimal};
 pub use input::{ReadRefusal, read_all};
-pub use label::{labels, labels_are_read_as_they_are_written};
+pub use label::{
+    addresses_and_labels_have_their_bounds, labels, labels_are_read_as_they_are_written,
+};
 pub use output::put_all;
 pub use plain::{address, is_plain};
 pub use words::{cut, digits, number, spells_its_number};
