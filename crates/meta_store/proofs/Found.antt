@@ -11,7 +11,7 @@ use Rattle.meta_store.specs.Cells.{cell_at, placed, without}
 use Rattle.meta_store.proofs.Keys.{below_upto, both, equal_keys, neither_below, not_below_itself, other_keys, same_keys}
 
 -- a filter that all whom the test finds pass
-find_kept : {X : Type 0} (p q : X → Bool) → ((x : X) → p x ≡ true → q x ≡ true) → (xs : List X) → find p (filter q xs) ≡ find p xs
+pub find_kept : {X : Type 0} (p q : X → Bool) → ((x : X) → p x ≡ true → q x ≡ true) → (xs : List X) → find p (filter q xs) ≡ find p xs
 find_kept p q passes [] = refl
 find_kept p q passes (x ∷ xs) = by (p x) refl (q x) refl (find_kept p q passes xs)
   where
@@ -22,7 +22,7 @@ find_kept p q passes (x ∷ xs) = by (p x) refl (q x) refl (find_kept p q passes
     by false other false gone rest = rest
 
 -- a filter that none whom the test finds passes
-find_gone : {X : Type 0} (p q : X → Bool) → ((x : X) → p x ≡ true → q x ≡ false) → (xs : List X) → find p (filter q xs) ≡ None
+pub find_gone : {X : Type 0} (p q : X → Bool) → ((x : X) → p x ≡ true → q x ≡ false) → (xs : List X) → find p (filter q xs) ≡ None
 find_gone p q fails [] = refl
 find_gone p q fails (x ∷ xs) = by (p x) refl (q x) refl (find_gone p q fails xs)
   where
@@ -36,7 +36,7 @@ or_none : {X : Type 0} (o : Option X) → option_or o None ≡ o
 or_none None = refl
 or_none (Some x) = refl
 
-is_key : (key : List ℕ) (P : List ℕ → Type 0) → P key → (x : Cell) → bytes_eq x.key key ≡ true → P x.key
+pub is_key : (key : List ℕ) (P : List ℕ → Type 0) → P key → (x : Cell) → bytes_eq x.key key ≡ true → P x.key
 is_key key P p x found = subst P (sym (same_keys x.key key found)) p
 
 split : (key : List ℕ) (e : Cell) (xs : List Cell) → cell_at key (placed e xs) ≡ option_or (cell_at key (filter (λ one. is_below one.key e.key) xs)) (cond (bytes_eq e.key key) (Some e) (cell_at key (filter (λ one. is_below e.key one.key) xs)))

@@ -4,3 +4,6 @@ pub mod Spots
 pub mod Found
 pub mod Refines
 pub mod Firsts
+pub mod Stored
+pub mod Verdicts
+pub mod Prefixes

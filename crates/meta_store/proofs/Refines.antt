@@ -1,11 +1,13 @@
 -- What one entry more makes of the tables that the entries leave.
-use Rattle.std.proofs.Common.{refl, ◌≡◌, ℕ, ◌+◌, ◌<◌, ◌≤◌, Bool, true, false, ◌&&◌, ◌||◌, not, cond, nat_eq, nat_le, nat_lt, List, [], ◌∷◌, ◌++◌, length, reverse, Option, Some, None, ap, sym, ◌∙◌, subst, arith}
+use Rattle.std.proofs.Common.{refl, ◌≡◌, ℕ, ◌+◌, ◌<◌, ◌≤◌, Bool, true, false, ◌&&◌, ◌||◌, not, cond, nat_eq, nat_le, nat_lt, List, [], ◌∷◌, ◌++◌, length, reverse, Option, Some, None, Result, Ok, Err, IfOk, ap, sym, ◌∙◌, subst, arith}
 use Rattle.std.proofs.lemmas.Bool.{true≢false}
 use Rattle.std.proofs.lemmas.Bool.Decides.{nat_tests}
 use Rattle.std.proofs.lemmas.List.{reverse-append, length-reverse}
+use Rattle.std.proofs.lemmas.List.Kept.{AllPairs-filter}
 use Rattle.std.proofs.lemmas.List.Sums.{count_by-le-length, sum_by-cons}
-use Rattle.std.specs.List.{count_by}
+use Rattle.std.specs.List.{count_by, filter}
 use Rattle.std.specs.Str.{bytes_eq}
+use Rattle.pd_types.specs.BeatCheck.{is_below}
 use Rattle.meta_store.specs.declared.record.Cell.{Cell}
 use Rattle.meta_store.specs.declared.record.MetaCall.{MetaCall}
 use Rattle.meta_store.specs.declared.record.MetaCall.TheVariants as calls
@@ -14,11 +16,11 @@ use Rattle.meta_store.specs.declared.record.MetaVerdict.TheVariants as verdicts
 use Rattle.meta_store.specs.declared.record.MetaEntry.{MetaEntry}
 use Rattle.meta_store.specs.declared.tables.TheConstants.{MOST_ENTRIES}
 use Rattle.meta_store.specs.declared.tables.Tables.{Tables}
-use Rattle.meta_store.specs.Cells.{AreRising, cell_at, revision_in}
-use Rattle.meta_store.specs.Past.{is_accepted, is_write, is_of, fence_of, counter_of, left_by, record_of, records_after, records_of, AreRecords, is_full, lead_verdict, write_verdict, verdict_of, IsLegal, entry_of, noted}
+use Rattle.meta_store.specs.Cells.{AreRising, begins_with, cell_at, revision_in}
+use Rattle.meta_store.specs.Past.{is_accepted, is_write, is_of, fence_of, counter_of, left_by, record_of, records_after, records_of, AreRecords, AreRecordsUnder, is_full, lead_verdict, write_verdict, verdict_of, IsLegal, entry_of, noted}
 use Rattle.meta_store.specs.Steps.{tables_of, verdict_by, stepped}
 use Rattle.meta_store.proofs.Order.{rising_none, rising_placed, rising_without}
-use Rattle.meta_store.proofs.Found.{at_placed, at_without}
+use Rattle.meta_store.proofs.Found.{at_placed, at_without, find_gone, find_kept, is_key}
 
 -- all records are by rising key
 rising_after : (call : MetaCall) (n : ℕ) (cells : List Cell) → AreRising cells → AreRising (records_after call n cells)
@@ -90,7 +92,7 @@ greatest fence term upto = by (nat_lt fence term) refl
     by true h = refl
     by false h = grind (arith, nat_tests)
 
-not_zero : (fence : ℕ) → fence ≡ cond (nat_lt fence 0) 0 fence
+pub not_zero : (fence : ℕ) → fence ≡ cond (nat_lt fence 0) 0 fence
 not_zero fence =
     let none : nat_lt fence 0 ≡ false = grind (arith, nat_tests) in
     ap (λ (t : Bool). cond t 0 fence) (sym none)
@@ -174,3 +176,27 @@ handed journal old tables entries term revision cells are long same copied accep
     let now = judged journal tables entries (calls.Lead term) (verdict_by tables entries (calls.Lead term)) are long refl in
     copied revision (now ∙ ap (λ (j : List MetaEntry). verdict_of (reverse j) (calls.Lead term)) same ∙ accepted)
     ∙ ap (λ (t : Tables). t.records) are ∙ ap (λ (j : List MetaEntry). records_of (reverse j)) same
+
+-- the records under a prefix
+under_key : (prefix key : List ℕ) (cells : List Cell) → cell_at key (filter (λ (cell : Cell). begins_with prefix cell.key) cells) ≡ cond (begins_with prefix key) (cell_at key cells) None
+under_key prefix key cells = by (begins_with prefix key) refl
+  where
+    by : (t : Bool) → begins_with prefix key ≡ t → cell_at key (filter (λ (cell : Cell). begins_with prefix cell.key) cells) ≡ cond t (cell_at key cells) None
+    by true here = find_kept (λ (one : Cell). bytes_eq one.key key) (λ (one : Cell). begins_with prefix one.key) (λ x found. is_key key (λ k. begins_with prefix k ≡ true) here x found) cells
+    by false other = find_gone (λ (one : Cell). bytes_eq one.key key) (λ (one : Cell). begins_with prefix one.key) (λ x found. is_key key (λ k. begins_with prefix k ≡ false) other x found) cells
+
+pub are_under : (journal old : List MetaEntry) (tables : Tables) (prefix : List ℕ) (cells : List Cell)
+    → tables ≡ tables_of (reverse journal) → journal ≡ old → cells ≡ filter (λ (cell : Cell). begins_with prefix cell.key) tables.records → AreRecordsUnder prefix (reverse old) cells
+are_under journal old tables prefix cells are same is =
+    let all : tables.records ≡ records_of (reverse old) = ap (λ (t : Tables). t.records) are ∙ ap (λ (j : List MetaEntry). records_of (reverse j)) same in
+    let whole : cells ≡ filter (λ (cell : Cell). begins_with prefix cell.key) (records_of (reverse old)) = is ∙ ap (λ (l : List Cell). filter (λ (cell : Cell). begins_with prefix cell.key) l) all in
+    subst (AreRecordsUnder prefix (reverse old)) (sym whole)
+    (record {
+      exactly = λ key. under_key prefix key (records_of (reverse old)) ∙ ap (λ (o : Option Cell). cond (begins_with prefix key) o None) (records_found (reverse old) key);
+      rising = AllPairs-filter (λ (one later : Cell). is_below one.key later.key ≡ true) (λ (cell : Cell). begins_with prefix cell.key) (records_of (reverse old)) (records_rise (reverse old));
+    })
+
+pub all_under : {E : Type 0} (listed : Result (List Cell) E) (journal old : List MetaEntry) (tables : Tables) (prefix : List ℕ) → tables ≡ tables_of (reverse journal) → journal ≡ old
+    → IfOk listed (λ cells. cells ≡ filter (λ (cell : Cell). begins_with prefix cell.key) tables.records) → IfOk listed (AreRecordsUnder prefix (reverse old))
+all_under (Ok cells) journal old tables prefix are same is = are_under journal old tables prefix cells are same is
+all_under (Err fault) journal old tables prefix are same is = tt

@@ -1,5 +1,6 @@
 -- Records as a list by rising key, and the record of a key in it (etcd: a range is answered by rising key).
-use Rattle.std.specs.Prelude.{◌≡◌, ℕ, Bool, true, not, List, ◌∷◌, ◌++◌, Option, Some, None, filter, find, AllPairs}
+use Rattle.std.specs.Prelude.{◌≡◌, ℕ, nat_eq, Bool, true, not, List, ◌∷◌, ◌++◌, Option, Some, None, filter, find, AllPairs}
+use Rattle.std.specs.List.{starts_with}
 use Rattle.std.specs.Str.{bytes_eq}
 use Rattle.pd_types.specs.BeatCheck.{is_below}
 use Rattle.meta_store.specs.declared.record.Cell.{Cell}
@@ -7,6 +8,10 @@ use Rattle.meta_store.specs.declared.record.Cell.{Cell}
 -- each record has a lesser key than those behind it, byte by byte
 abbrev pub AreRising : List Cell → Type 0
 AreRising cells = AllPairs (λ one later. is_below one.key later.key ≡ true) cells
+
+-- the key begins with this prefix
+abbrev pub begins_with : List ℕ → List ℕ → Bool
+begins_with prefix key = starts_with nat_eq key prefix
 
 -- the record of a key
 abbrev pub cell_at : List ℕ → List Cell → Option Cell

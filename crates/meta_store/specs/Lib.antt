@@ -3,3 +3,5 @@ pub mod Doors
 pub mod Places
 pub mod Past
 pub mod Steps
+pub mod Stores
+pub mod Asked

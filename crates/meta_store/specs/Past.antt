@@ -12,7 +12,7 @@ use Rattle.meta_store.specs.declared.record.MetaEntry.{MetaEntry}
 use Rattle.meta_store.specs.declared.tables.TheConstants.{MOST_ENTRIES, MOST_KEYS}
 use Rattle.meta_store.specs.declared.fault.MetaFault.{MetaFault}
 use Rattle.meta_store.specs.declared.fault.MetaFault.TheVariants as faults
-use Rattle.meta_store.specs.Cells.{AreRising, cell_at, revision_in, placed, without}
+use Rattle.meta_store.specs.Cells.{AreRising, begins_with, cell_at, revision_in, placed, without}
 
 -- the call was accepted
 abbrev pub is_accepted : MetaVerdict → Bool
@@ -70,6 +70,11 @@ pub record AreRecords (past : List MetaEntry) (cells : List Cell) : Type 0 where
   pub exactly : (key : List ℕ) → cell_at key cells ≡ record_of key past
   pub rising : AreRising cells
 
+-- these are all records whose keys begin with the prefix, by rising key
+pub record AreRecordsUnder (prefix : List ℕ) (past : List MetaEntry) (cells : List Cell) : Type 0 where
+  pub exactly : (key : List ℕ) → cell_at key cells ≡ (if begins_with prefix key then record_of key past else None)
+  pub rising : AreRising cells
+
 -- the same, computed. The records, once an accepted call came
 abbrev pub records_after : MetaCall → ℕ → List Cell → List Cell
 records_after (calls.Lead term) counter cells = cells
@@ -104,6 +109,18 @@ verdict_of past (calls.Put term key expected bytes) =
     write_verdict (fence_of past) (counter_of past) (length past) (revision_of key past) (is_full (record_of key past) (length (records_of past))) term expected
 verdict_of past (calls.Delete term key expected) =
     write_verdict (fence_of past) (counter_of past) (length past) (revision_of key past) false term expected
+
+-- the term that a call is made at
+abbrev pub term_of : MetaCall → ℕ
+term_of (calls.Lead term) = term
+term_of (calls.Put term key expected bytes) = term
+term_of (calls.Delete term key expected) = term
+
+-- a write expects the key's revision
+abbrev pub IsExpected : List MetaEntry → MetaCall → Type 0
+IsExpected past (calls.Lead term) = Unit {0}
+IsExpected past (calls.Put term key expected bytes) = expected ≡ revision_of key past
+IsExpected past (calls.Delete term key expected) = expected ≡ revision_of key past
 
 -- each entry has the verdict that those before it give
 abbrev pub IsLegal : List MetaEntry → Type 0

@@ -2,7 +2,7 @@
 ghost use Rattle.std.specs.Prelude.{◌≡◌, ◌≤◌, ℕ, [], List, reverse, IsTrue, IfOk, IfErr, OnOk, OnErr};
 ghost use Rattle.meta_store.specs.declared.record.MetaCall.TheVariants as calls;
 ghost use Rattle.meta_store.specs.declared.record.MetaVerdict.TheVariants as verdicts;
-ghost use Rattle.meta_store.specs.Past.{AreRecords, IsLegal, Refused, is_accepted, noted, record_of, records_of, verdict_of};
+ghost use Rattle.meta_store.specs.Past.{AreRecords, AreRecordsUnder, IsLegal, Refused, is_accepted, noted, record_of, records_of, verdict_of};
 ghost use Rattle.meta_store.specs.Steps.{verdict_by};
 
 use crate::records::Records;
@@ -199,6 +199,13 @@ impl Meta {
             Some(cell) => Ok(Some(cell.copy(self.alloc)?)),
             None => Ok(None),
         }
+    }
+
+    /// Copies of all records whose keys begin with the prefix, by rising key.
+    pub fn list(&self, prefix: &[u8]) -> Result<Cells, NoMemory>
+        ensures records { IfOk result (AreRecordsUnder prefix.now (reverse self.now)) }
+    {
+        self.tables.records.under(self.alloc, prefix)
     }
 
     /// All calls with their verdicts, in their order. Each verdict is the first that applies over

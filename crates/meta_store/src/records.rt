@@ -1,8 +1,8 @@
 // The records by rising key.
-ghost use Rattle.std.specs.Prelude.{◌≡◌, ◌+◌, ◌<◌, ◌≤◌, ℕ, [], true, false, length, slice_index_or, option_copied, IfOk, IfErr, OnOk, OnErr};
+ghost use Rattle.std.specs.Prelude.{◌≡◌, ◌+◌, ◌<◌, ◌≤◌, ℕ, [], true, false, filter, length, slice_index_or, option_copied, IfOk, IfErr, OnOk, OnErr};
 ghost use Rattle.pd_types.specs.BeatCheck.{is_below};
 ghost use Rattle.meta_store.specs.declared.record.Cell.{Cell};
-ghost use Rattle.meta_store.specs.Cells.{AreRising, cell_at, placed, without};
+ghost use Rattle.meta_store.specs.Cells.{AreRising, begins_with, cell_at, placed, without};
 ghost use Rattle.meta_store.specs.Places.{Parts, Stands};
 
 use crate::{Cell, Cells};
@@ -160,6 +160,20 @@ impl Records {
         ensures value { self.new ≡ without key.now self.old }
     {
         take_out(&mut self.held, key);
+    }
+
+    /// Copies of the records whose keys begin with the prefix, by rising key.
+    pub fn under(&self, alloc: Global, prefix: &[u8]) -> Result<Cells, NoMemory>
+        ensures value { IfOk result (λ cells. cells ≡ filter (λ cell. begins_with prefix.now cell.key) self.now) }
+        ensures rising { AreRising self.now }
+    {
+        let mut cells = Vec::new(alloc);
+        for one in &self.held {
+            if one.cell().key.as_slice().starts_with(prefix) {
+                cells.push(one.cell().copy(alloc)?)?;
+            }
+        }
+        Ok(Seq::of(cells))
     }
 
     /// Copies of all records, by rising key.

@@ -1,5 +1,6 @@
-ghost use Rattle.std.specs.Prelude.{◌≡◌, ◌<◌, ◌≤◌, ◌^◌, ◌+◌, ◌*◌, ℕ, List, Some, ◌↔◌, IfSome, IfNone};
+ghost use Rattle.std.specs.Prelude.{◌≡◌, ◌<◌, ◌≤◌, ◌^◌, ◌+◌, ◌*◌, ◌∷◌, [], ℕ, List, length, nat_eq, Some, ◌↔◌, IfSome, IfNone, MatchOption};
 ghost use Rattle.std.specs.Char.{digit_value};
+ghost use Rattle.std.specs.List.{slice_split};
 ghost use Rattle.std.specs.Option.{SomeIff};
 ghost use Rattle.std.specs.Str.Parse.{AllDigits, digits_value};
 ghost use Rattle.pd_lines.specs.Numeral.{IsNumeral, number_of};
@@ -25,13 +26,14 @@ fn spelled(word: &[u8]) -> Option<u64>
         return None;
     }
     if word[0] != b'0' {
-        return value_of(word);
+        return digits(word);
     }
     if word.len() == 1 { Some(0) } else { None }
 }
 
-// The value of digits, where it fits.
-fn value_of(word: &[u8]) -> Option<u64>
+/// The value of decimal digits, leading zeros too; none for another word or a value of 2^64 and more.
+/// No digits have the value 0.
+pub fn digits(word: &[u8]) -> Option<u64>
     ensures some { IfSome result (λ n. AllDigits 10 word.now × (n ≡ digits_value 10 word.now) × (n < 2 ^ 64)) }
     ensures none { IfNone result (AllDigits 10 word.now → 2 ^ 64 ≤ digits_value 10 word.now) }
 {
@@ -43,6 +45,20 @@ fn value_of(word: &[u8]) -> Option<u64>
         }
     }
     Some(value)
+}
+
+/// What stands in front of the first such byte, and what stands behind it; a word without the byte
+/// stands in front alone.
+pub fn cut(word: &[u8], byte: u8) -> (&[u8], Option<&[u8]>)
+    ensures value { MatchOption result.1 (slice_split (λ b. nat_eq b byte) word.now ≡ result.0.now ∷ []) (λ rest. slice_split (λ b. nat_eq b byte) word.now ≡ result.0.now ∷ slice_split (λ b. nat_eq b byte) rest.now) }
+    ensures shorter { IfSome result.1 (λ rest. length rest.now < length word.now) }
+{
+    for (i, b) in word.iter().enumerate() {
+        if *b == byte {
+            return (&word[..i], Some(&word[i + 1..]));
+        }
+    }
+    (word, None)
 }
 
 // The number with one more digit at its end, where it fits.

@@ -1,15 +1,13 @@
 -- What a store asks has its form, and the driver that it asks is 1 or more.
-use Rattle.std.proofs.Common.{◌≡◌, ◌≢◌, ◌⊎◌, inl, inr, ◌<◌, ◌^◌, ℕ, List, [], ◌∷◌, ◌++◌, length, take, drop, Bool, true, false, not, cond, nat_eq, nat_lt, All, Option, refl, sym, subst, arith}
+use Rattle.std.proofs.Common.{◌≡◌, ◌⊎◌, inl, inr, ◌<◌, ◌^◌, ℕ, List, [], ◌∷◌, length, take, drop, Bool, true, false, not, cond, nat_lt, All, Option, Some, None, refl, sym, subst, arith}
 use Rattle.std.specs.Prelude.{Result, Ok, Err, codes, ◌&&◌}
-use Rattle.std.specs.List.{AllByRecursion, slice_split}
+use Rattle.std.specs.List.{AllByRecursion}
 use Rattle.std.specs.Str.{bytes_eq}
-use Rattle.std.proofs.lemmas.Bool.Decides.{nat_tests}
-use Rattle.std.proofs.lemmas.List.{length-append}
-use Rattle.std.proofs.lemmas.List.Elements.{All-append, All-cons, All-from_recursion, All-nil}
-use Rattle.std.proofs.lemmas.List.Folds.{list_any_at}
-use Rattle.std.proofs.lemmas.List.Quantifiers.{all_pairs_push}
-use Rattle.std.proofs.lemmas.Slice.Eq.{bytes_eq-Decides}
+use Rattle.std.proofs.lemmas.List.Elements.{All-from_recursion, All-nil}
+use Rattle.pd_lines.specs.Labels.{AreLabels, labels_of}
 use Rattle.pd_lines.specs.Numeral.{number_of}
+use Rattle.pd_lines.specs.Plain.{is_plain}
+use Rattle.pd_lines.proofs.Listing.{labels_read, no_labels}
 use Rattle.pd_types.specs.declared.region.DownPeer.{DownPeer}
 use Rattle.pd_types.specs.declared.region.Peer.{Peer}
 use Rattle.pd_types.specs.declared.region.RegionBeat.{RegionBeat}
@@ -18,8 +16,8 @@ use Rattle.pd_types.specs.declared.region.Role.TheVariants.{Voter, Learner}
 use Rattle.pd_types.specs.declared.request.Request.TheVariants.{Hello, Alive, Beat}
 use Rattle.pd_types.specs.declared.store.Label.{Label}
 use Rattle.pd_script.specs.Asks.{alive_of, asked_of, beat_of, greeted, head_of, hello_of, labels_or, region_of, reported, troubled_of}
-use Rattle.pd_script.specs.Formed.{AreLabels, IsAsked, IsDown, IsId, IsPeer, IsReport, IsSpoken}
-use Rattle.pd_script.specs.Forms.{Item, address_of, and_then, before_colon, down_of, downs_from, downs_of, has_key, ids_from, in_front, is_colon, is_plain, items_of, key_form, label_by, label_of, labels_from, peer_of, peers_from, peers_of, pending_of, role_of, unless_colon, with_label}
+use Rattle.pd_script.specs.Formed.{IsAsked, IsDown, IsId, IsPeer, IsReport, IsSpoken}
+use Rattle.pd_script.specs.Forms.{Item, address_form, and_then, before_colon, down_of, downs_from, downs_of, ids_from, in_front, is_colon, items_of, key_form, peer_of, peers_from, peers_of, pending_of, role_of, spelled_or, unless_colon}
 use Rattle.pd_script.specs.Places.{read_place}
 use Rattle.pd_script.specs.declared.ask.Asked.{Asked}
 use Rattle.pd_script.specs.declared.ask.Head.{Head}
@@ -137,56 +135,17 @@ pending_word : (word : List ℕ) (l : List ℕ) → pending_of word ≡ Ok l →
 pending_word word l is = All-from_recursion IsId l (ids_ok (items_of (drop 8 word)) l (tagged (bytes_eq (take 8 word) (codes "pending=")) (ids_from (items_of (drop 8 word))) l BadWord is))
 
 -- labels
-record IsLabel (label : Label) : Type 0 where
-  key : is_plain 32 label.key ≡ true
-  value : is_plain 32 label.value ≡ true
+labels_ok : (word : List ℕ) (o : Option (List Label)) (l : List Label) → ((m : List Label) → o ≡ Some m → AreLabels m) → spelled_or o ≡ Ok l → AreLabels l
+labels_ok word None l formed is = no_fine BadWord l is
+labels_ok word (Some m) l formed is = subst AreLabels (same_ok m l is) (formed m refl)
 
-label_ok : (parts : List (List ℕ)) (label : Label) → label_by parts ≡ Ok label → IsLabel label
-label_ok [] label is = no_fine BadWord label is
-label_ok (key ∷ []) label is = no_fine BadWord label is
-label_ok (key ∷ value ∷ []) label is =
-    let passed = when_ok (is_plain 32 key && is_plain 32 value) (record { key = key; value = value }) label BadWord is in
-    let both = both_true (is_plain 32 key) (is_plain 32 value) passed.0 in
-    subst IsLabel passed.1 (record { key = both.0; value = both.1 })
-label_ok (key ∷ value ∷ more ∷ rest) label is = no_fine BadWord label is
-
-other_keys : (label : Label) (earlier : List Label) → has_key label.key earlier ≡ false → All (λ one. one.key ≢ label.key) earlier
-other_keys label earlier none k d low same =
-    let found = list_any_at (λ (one : Label). bytes_eq one.key label.key) earlier k d low ((bytes_eq-Decides _ label.key).1 same) in
-    cc
-
-one_more : (earlier : List Label) (label : Label) → AreLabels earlier → IsLabel label → length earlier < 4 → has_key label.key earlier ≡ false → AreLabels (earlier ++ label ∷ [])
-one_more earlier label good fine less none = record {
-  few = grind (arith, length-append);
-  keys = All-append (λ (one : Label). is_plain 32 one.key ≡ true) earlier (label ∷ []) good.keys (All-cons (λ (one : Label). is_plain 32 one.key ≡ true) label [] fine.key (All-nil (λ (one : Label). is_plain 32 one.key ≡ true)));
-  values = All-append (λ (one : Label). is_plain 32 one.value ≡ true) earlier (label ∷ []) good.values (All-cons (λ (one : Label). is_plain 32 one.value ≡ true) label [] fine.value (All-nil (λ (one : Label). is_plain 32 one.value ≡ true)));
-  distinct = all_pairs_push (λ (one later : Label). one.key ≢ later.key) earlier label good.distinct (λ k d low. other_keys label earlier none k d low);
-}
-
-with_ok : (earlier : List Label) (label : Label) (l : List Label) → AreLabels earlier → IsLabel label → with_label earlier label ≡ Ok l → AreLabels l
-with_ok earlier label l good fine is =
-    let passed = when_ok (nat_lt (length earlier) 4 && not (has_key label.key earlier)) (earlier ++ label ∷ []) l BadWord is in
-    let both = both_true (nat_lt (length earlier) 4) (not (has_key label.key earlier)) passed.0 in
-    subst AreLabels passed.1 (one_more earlier label good fine (grind (arith, nat_tests, both.0)) (not_false (has_key label.key earlier) both.1))
-
-labels_ok : (parts : List (List ℕ)) (earlier l : List Label) → AreLabels earlier → labels_from earlier parts ≡ Ok l → AreLabels l
-labels_ok [] earlier l good is = subst AreLabels (same_ok earlier l is) good
-labels_ok (part ∷ parts) earlier l good is =
-    let one = then_read (label_of part) _ l is in
-    let more = then_read (with_label earlier one.0) _ l one.2 in
-    labels_ok parts more.0 l (with_ok earlier one.0 more.0 good (label_ok (slice_split (λ b. nat_eq b 61) part) one.0 one.1) more.1) more.2
-
-no_labels : AreLabels []
-no_labels = record {
-  few = omega arith;
-  keys = All-nil (λ (one : Label). is_plain 32 one.key ≡ true);
-  values = All-nil (λ (one : Label). is_plain 32 one.value ≡ true);
-  distinct = λ i j d less low. absurd (omega arith);
-}
+address_ok : (b : Bool) (word x : List ℕ) → spelled_or (cond {A = Option (List ℕ)} b (Some word) None) ≡ Ok x → (b ≡ true) × (word ≡ x)
+address_ok true word x is = (refl, same_ok word x is)
+address_ok false word x is = no_fine BadWord x is
 
 labels_word : (word : List ℕ) (l : List Label) → labels_or word ≡ Ok l → AreLabels l
 labels_word [] l is = subst AreLabels (same_ok [] l is) no_labels
-labels_word (b ∷ bs) l is = labels_ok (slice_split (λ c. nat_eq c 44) (b ∷ bs)) [] l no_labels is
+labels_word (b ∷ bs) l is = labels_ok (b ∷ bs) (labels_of (b ∷ bs)) l (λ m same. (labels_read (b ∷ bs) m same).0) is
 
 -- a store, the driver that it speaks to, and a moment
 record IsHead (h : Head) : Type 0 where
@@ -211,10 +170,10 @@ pub record IsFine (a : Asked) : Type 0 where
 greeted_ok : (store driver moment address labels : List ℕ) (a : Asked) → greeted (head_of store driver moment) address labels ≡ Ok a → IsFine a
 greeted_ok store driver moment address labels a is =
     let h = then_read (head_of store driver moment) _ a is in
-    let b = then_read (address_of address) _ a h.2 in
+    let b = then_read (address_form address) _ a h.2 in
     let l = then_read (labels_or labels) _ a b.2 in
     let head = head_ok store driver moment h.0 h.1 in
-    let plain = when_ok (is_plain 64 address) address b.0 BadWord b.1 in
+    let plain = address_ok (is_plain 64 address) address b.0 b.1 in
     subst IsFine (same_ok (record { driver = h.0.driver; request = Hello h.0.store h.0.moment b.0 l.0 }) a l.2)
     (record { pos = head.pos; asked = (head.spoken, subst (λ (x : List ℕ). is_plain 64 x ≡ true) plain.1 plain.0, labels_word labels l.0 l.1) })
 

@@ -6,7 +6,7 @@ use Rattle.std.specs.Str.{bytes_eq}
 use Rattle.pd_types.specs.declared.region.RegionBeat.{RegionBeat}
 use Rattle.pd_types.specs.declared.request.Request.TheVariants.{Hello, Alive, Beat}
 use Rattle.pd_types.specs.declared.store.Label.{Label}
-use Rattle.pd_script.specs.Forms.{address_of, and_then, downs_of, key_form, labels_of, peers_of, pending_of}
+use Rattle.pd_script.specs.Forms.{address_form, and_then, downs_of, key_form, labels_form, peers_of, pending_of}
 use Rattle.pd_script.specs.Places.{read_place}
 use Rattle.pd_script.specs.declared.ask.Asked.{Asked}
 use Rattle.pd_script.specs.declared.ask.Head.{Head}
@@ -38,11 +38,11 @@ head_of store driver moment = and_then (read_place Id store) (λ s. and_then (re
 -- the labels of a word; none without one, which is the empty word
 abbrev pub labels_or : List ℕ → Result (List Label) Reason
 labels_or [] = Ok []
-labels_or (b ∷ bs) = labels_of (b ∷ bs)
+labels_or (b ∷ bs) = labels_form (b ∷ bs)
 
 -- a store with its address and labels
 abbrev pub greeted : Result Head Reason → List ℕ → List ℕ → Result Asked Reason
-greeted head address labels = and_then head (λ h. and_then (address_of address) (λ a. and_then (labels_or labels) (λ l. Ok (record { driver = h.driver; request = Hello h.store h.moment a l }))))
+greeted head address labels = and_then head (λ h. and_then (address_form address) (λ a. and_then (labels_or labels) (λ l. Ok (record { driver = h.driver; request = Hello h.store h.moment a l }))))
 
 -- the words of `hello`
 abbrev pub hello_of : List (List ℕ) → Result Asked Reason

@@ -1,25 +1,18 @@
 -- The forms of what a store asks (own choice).
-use Rattle.std.specs.Prelude.{◌≡◌, ◌≢◌, ◌⊎◌, ℕ, ◌<◌, ◌≤◌, ◌^◌, List, length, true, All, AllPairs}
+use Rattle.std.specs.Prelude.{◌≡◌, ◌⊎◌, ℕ, ◌<◌, ◌^◌, true, All}
 use Rattle.pd_types.specs.declared.region.DownPeer.{DownPeer}
 use Rattle.pd_types.specs.declared.region.Peer.{Peer}
 use Rattle.pd_types.specs.declared.region.RegionBeat.{RegionBeat}
 use Rattle.pd_types.specs.declared.region.Role.TheVariants.{Voter, Learner}
 use Rattle.pd_types.specs.declared.request.Request.{Request}
 use Rattle.pd_types.specs.declared.request.Request.TheVariants.{Hello, Alive, Beat, Term, Retire}
-use Rattle.pd_types.specs.declared.store.Label.{Label}
-use Rattle.pd_script.specs.Forms.{is_plain}
+use Rattle.pd_lines.specs.Labels.{AreLabels}
+use Rattle.pd_lines.specs.Plain.{is_plain}
 
 -- the id of a store, a region or a peer: 1 to 2^63 - 1
 pub record IsId (n : ℕ) : Type 0 where
   pub some : 0 < n
   pub low : n < 2 ^ 63
-
--- at most four labels, each key and each value of 1 to 32 plain characters, and no key twice
-pub record AreLabels (labels : List Label) : Type 0 where
-  pub few : length labels ≤ 4
-  pub keys : All (λ label. is_plain 32 label.key ≡ true) labels
-  pub values : All (λ label. is_plain 32 label.value ≡ true) labels
-  pub distinct : AllPairs (λ one later. one.key ≢ later.key) labels
 
 -- a voter or a learner, with its id and its store's
 pub record IsPeer (peer : Peer) : Type 0 where

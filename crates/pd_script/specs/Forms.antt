@@ -1,7 +1,5 @@
 -- The words that aren't numbers: addresses, labels, keys, and lists of peers (own choice).
-use Rattle.std.specs.Prelude.{ℕ, List, [], ◌∷◌, ◌++◌, codes, length, take, drop, Bool, false, nat_eq, nat_lt, nat_le, ◌&&◌, ◌||◌, not, Option, Some, None, Result, Ok, Err, if◌then◌else◌}
-use Rattle.std.specs.Char.{is_ascii_alphanumeric}
-use Rattle.std.specs.List.{list_all, list_any, slice_split}
+use Rattle.std.specs.Prelude.{ℕ, List, [], ◌∷◌, ◌++◌, codes, take, drop, Bool, false, nat_eq, ◌||◌, Option, Some, None, Result, Ok, Err, if◌then◌else◌}
 use Rattle.std.specs.Str.{bytes_eq}
 use Rattle.pd_types.specs.declared.region.DownPeer.{DownPeer}
 use Rattle.pd_types.specs.declared.region.Peer.{Peer}
@@ -9,6 +7,8 @@ use Rattle.pd_types.specs.declared.region.Role.{Role}
 use Rattle.pd_types.specs.declared.region.Role.TheVariants.{Voter, Learner}
 use Rattle.pd_types.specs.declared.store.Label.{Label}
 use Rattle.pd_lines.specs.Keys.{key_of}
+use Rattle.pd_lines.specs.Labels.{labels_of}
+use Rattle.pd_lines.specs.Plain.{address_of}
 use Rattle.pd_script.specs.Places.{read_place}
 use Rattle.pd_script.specs.declared.place.Place.{Place}
 use Rattle.pd_script.specs.declared.place.Place.TheVariants.{Id, Seconds}
@@ -20,52 +20,22 @@ abbrev pub and_then : {A B : Type 0} → Result A Reason → (A → Result B Rea
 and_then (Ok value) next = next value
 and_then (Err reason) next = Err reason
 
--- one of `A-Z a-z 0-9 . _ : / -`
-abbrev pub is_plain_byte : ℕ → Bool
-is_plain_byte b = is_ascii_alphanumeric b || nat_eq b 46 || nat_eq b 95 || nat_eq b 58 || nat_eq b 47 || nat_eq b 45
-
--- one to so many of them
-abbrev pub is_plain : ℕ → List ℕ → Bool
-is_plain most word = nat_lt 0 (length word) && nat_le (length word) most && list_all is_plain_byte word
+-- what a word spells, where it is in the form of its place
+abbrev pub spelled_or : {A : Type 0} → Option A → Result A Reason
+spelled_or (Some value) = Ok value
+spelled_or None = Err BadWord
 
 -- an address: 1 to 64 plain characters
-abbrev pub address_of : List ℕ → Result (List ℕ) Reason
-address_of word = if is_plain 64 word then Ok word else Err BadWord
-
--- a key and a value, each of 1 to 32 plain characters
-abbrev pub label_by : List (List ℕ) → Result Label Reason
-label_by (key ∷ value ∷ []) = if is_plain 32 key && is_plain 32 value then Ok (record { key = key; value = value }) else Err BadWord
-label_by _ = Err BadWord
-
--- a label: `key=value`
-abbrev pub label_of : List ℕ → Result Label Reason
-label_of part = label_by (slice_split (λ b. nat_eq b 61) part)
-
--- one of the labels has this key
-abbrev pub has_key : List ℕ → List Label → Bool
-has_key key labels = list_any (λ label. bytes_eq label.key key) labels
-
--- a label behind others: there are fewer than four, and none has its key
-abbrev pub with_label : List Label → Label → Result (List Label) Reason
-with_label earlier label = if nat_lt (length earlier) 4 && not (has_key label.key earlier) then Ok (earlier ++ label ∷ []) else Err BadWord
-
--- the labels of these parts, behind those read before
-abbrev pub labels_from : List Label → List (List ℕ) → Result (List Label) Reason
-labels_from earlier [] = Ok earlier
-labels_from earlier (part ∷ parts) = and_then (label_of part) (λ label. and_then (with_label earlier label) (λ labels. labels_from labels parts))
+abbrev pub address_form : List ℕ → Result (List ℕ) Reason
+address_form word = spelled_or (address_of word)
 
 -- one to four labels joined by commas, no key twice
-abbrev pub labels_of : List ℕ → Result (List Label) Reason
-labels_of word = labels_from [] (slice_split (λ b. nat_eq b 44) word)
-
--- the key, where it is spelled
-abbrev pub key_or : Option (List ℕ) → Result (List ℕ) Reason
-key_or (Some key) = Ok key
-key_or None = Err BadWord
+abbrev pub labels_form : List ℕ → Result (List Label) Reason
+labels_form word = spelled_or (labels_of word)
 
 -- a start or an end: `-` for the empty key, or hexadecimal digits
 abbrev pub key_form : List ℕ → Result (List ℕ) Reason
-key_form word = key_or (key_of word)
+key_form word = spelled_or (key_of word)
 
 -- what stands between two separators, and the separator behind it, `:` or `,`, none at the end
 pub record Item : Type 0 where

@@ -1,6 +1,0 @@
-use Rattle.std.proofs.Common.{◌∙◌}
-use Rattle.pd_script.proofs.Cutting.{plain_utf8}
-use Rattle.pd_script.proofs.form.text_of.Goals as goal
-
-pub returns : goal.returns
-returns c = record { ok = c.of.ensures.value ∙ c.in_ok-from_utf8_lossy.ensures.ok (plain_utf8 c.args.word.now c.requires.plain) }
