@@ -106,11 +106,11 @@ module _ (run : Run) (b : CameBack run) where
       let lo_is : bounded.claim.window.lo ≡ g.lo = ap (λ (x : Claim). x.window.lo) (sym same) ∙ g.lo_is in
       let number : e.0.part.number ≡ d = sym e.2 in
       let raised_there : Contains (raised e.0.part.answers) bounded.start = ⊎_elim
-          (λ (z : bounded.start ≡ 0). absurd (omega (arith, z, bounded.begins, lo_is, g.some)))
-          (λ (z : Contains (the_history run b).starts (record { driver = d; at = bounded.start })). let f = driver_of_start run b d bounded.start z in
-          let one : f.0 ≡ e.0 = once (λ (x : DriverEnd). x.part.number) b.drivers b.drivers_once f.0 e.0 f.1 e.1 (f.2 ∙ e.2) in
-          subst (λ (x : DriverEnd). Contains (raised x.part.answers) bounded.start) one f.3)
-          bounded.made in
+      (λ (z : bounded.start ≡ 0). absurd (omega (arith, z, bounded.begins, lo_is, g.some)))
+      (λ (z : Contains (the_history run b).starts (record { driver = d; at = bounded.start })). let f = driver_of_start run b d bounded.start z in
+      let one : f.0 ≡ e.0 = once (λ (x : DriverEnd). x.part.number) b.drivers b.drivers_once f.0 e.0 f.1 e.1 (f.2 ∙ e.2) in
+      subst (λ (x : DriverEnd). Contains (raised x.part.answers) bounded.start) one f.3)
+      bounded.made in
       record {
         count = m_is;
         passed = subst (λ x. passes at hi x ≡ true) (sym m_is) pass;

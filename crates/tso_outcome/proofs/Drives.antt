@@ -101,13 +101,16 @@ module _ where
       (λ (s : Contains v.published p). inl s)
       (λ (s : (p.driver ≡ v.driver) × Publishes (holding v) a.said p.word). inr (s.0, record { before = []; one = a; after = rest; is = refl; publishes = s.1 }))
       (h.1.published p r))
-      (λ (r : (p.driver ≡ h.0.driver) × WasPublished h.0.driver (holding h.0) rest p.word). inr (r.0 ∙ h.1.driver, record {
-        before = a ∷ r.1.before;
-        one = r.1.one;
-        after = r.1.after;
-        is = ap (λ l. a ∷ l) r.1.is;
-        publishes = subst (λ o. Publishes o r.1.one.said p.word) (λ i. held_by (h.1.driver i) (h.1.holds i) r.1.before) r.1.publishes;
-      }))
+      (λ (r : (p.driver ≡ h.0.driver) × WasPublished h.0.driver (holding h.0) rest p.word). inr (
+        r.0 ∙ h.1.driver,
+        record {
+          before = a ∷ r.1.before;
+          one = r.1.one;
+          after = r.1.after;
+          is = ap (λ l. a ∷ l) r.1.is;
+          publishes = subst (λ o. Publishes o r.1.one.said p.word) (λ i. held_by (h.1.driver i) (h.1.holds i) r.1.before) r.1.publishes;
+        },
+      ))
       (drove_published h.0 rest w h.2 p there)
 
 -- THE HELD WINDOW

@@ -142,13 +142,18 @@ module _ (run : Run) (b : CameBack run) where
       (λ f. omega (arith, b.claims_weigh f, b.gathered.a.claims f, back_total f (the_history.newest ∷ the_history.past))) c h
 
   pub claim_in : (e : DriverEnd) → Contains b.drivers e → (c : Claim) → Contains (claims e.view) c → Contains b.claims c
-  claim_in e h c there = stands claim_code claim_one c b.claims (omega (arith, b.claims_weigh (hit claim_code claim_one c), b.unites.claims (hit claim_code claim_one c),
-      weight_le (λ (w : View). total (hit claim_code claim_one c) (claims w)) driver_views e.view (to_map (λ (x : DriverEnd). x.view) b.drivers e h), weighs claim_code claim_one c (claims e.view) there))
+  claim_in e h c there = stands claim_code claim_one c b.claims (omega (
+    arith,
+    b.claims_weigh (hit claim_code claim_one c),
+    b.unites.claims (hit claim_code claim_one c),
+    weight_le (λ (w : View). total (hit claim_code claim_one c) (claims w)) driver_views e.view (to_map (λ (x : DriverEnd). x.view) b.drivers e h),
+    weighs claim_code claim_one c (claims e.view) there,
+  ))
 
   pub driver_of_claim : (c : Claim) → Contains b.claims c → 0 < c.window.driver → (e : DriverEnd) × Contains b.drivers e × Contains (claims e.view) c
   driver_of_claim c h pos =
       let not_first : hit claim_code claim_one c (opening_claim run.setup.cell) ≤ 0 = dite (dec_le (hit claim_code claim_one c (opening_claim run.setup.cell)) 0)
-          (λ z. z) (λ nz. absurd (let same = hit-is claim_code claim_one c (opening_claim run.setup.cell) (omega (arith, nz)) in omega (arith, pos, ap (λ (x : Claim). x.window.driver) same))) in
+      (λ z. z) (λ nz. absurd (let same = hit-is claim_code claim_one c (opening_claim run.setup.cell) (omega (arith, nz)) in omega (arith, pos, ap (λ (x : Claim). x.window.driver) same))) in
       let some : 0 < total (hit claim_code claim_one c) (claims b.view) = omega (arith, b.claims_weigh (hit claim_code claim_one c), weighs claim_code claim_one c b.claims h, not_first) in
       let r = located claim_code claim_one claims driver_views (claims b.view) b.unites.claims c (stands claim_code claim_one c (claims b.view) some) in
       let e = driver_of r.0 r.1 in
@@ -160,8 +165,8 @@ module _ (run : Run) (b : CameBack run) where
       let drove = (b.drove e h).1 in
       let r = drove_back (driver_view run.setup e.part.number) e.part.answers e.view drove c there in
       let in_range : (run.setup.cell.term < c.window.term) × (c.window.term < 262144) = ⊎_elim
-          (λ (z : (x : Claim) × Contains (claims (driver_view run.setup e.part.number)) x × (x.window.term ≡ c.window.term)). in_nil z.0 z.1)
-          (λ (z : (run.setup.cell.term < c.window.term) × (c.window.term < 262144)). z) r in
+      (λ (z : (x : Claim) × Contains (claims (driver_view run.setup e.part.number)) x × (x.window.term ≡ c.window.term)). in_nil z.0 z.1)
+      (λ (z : (run.setup.cell.term < c.window.term) × (c.window.term < 262144)). z) r in
       (drove_own (driver_view run.setup e.part.number) e.part.answers e.view drove (λ x z. in_nil x z) c there, in_range.0, in_range.1)
 
   -- the window of a claim is printed where it is open
@@ -218,11 +223,19 @@ module _ (run : Run) (b : CameBack run) where
 
   -- all that was added at a driver is at most what was asked for there
   pub all_added : (d : ℕ) → added_at d the_history.added ≤ asked_of_all d run.clients
-  all_added d = omega (arith, b.gathered.a.added (λ (a : Added). cond (eqb a.driver d) a.count 0), b.unites.added (λ (a : Added). cond (eqb a.driver d) a.count 0),
-      sum_le (λ (w : View). added_at d w.added) (λ (p : ClientPart). asked_by d p.answers) b.clients (λ e h. asked_one d e h),
-      ap (λ l. total (λ (p : ClientPart). asked_by d p.answers) l) b.clients_are)
+  all_added d = omega (
+    arith,
+    b.gathered.a.added (λ (a : Added). cond (eqb a.driver d) a.count 0),
+    b.unites.added (λ (a : Added). cond (eqb a.driver d) a.count 0),
+    sum_le (λ (w : View). added_at d w.added) (λ (p : ClientPart). asked_by d p.answers) b.clients (λ e h. asked_one d e h),
+    ap (λ l. total (λ (p : ClientPart). asked_by d p.answers) l) b.clients_are,
+  )
 
   pub others_added : (c d : ℕ) → added_else c d the_history.added ≤ asked_of_others c d run.clients
-  others_added c d = omega (arith, b.gathered.a.added (λ (a : Added). cond (eqb a.driver d) (cond (eqb a.client c) 0 a.count) 0), b.unites.added (λ (a : Added). cond (eqb a.driver d) (cond (eqb a.client c) 0 a.count) 0),
-      sum_le (λ (w : View). added_else c d w.added) (λ (p : ClientPart). cond (eqb p.number c) 0 (asked_by d p.answers)) b.clients (λ e h. else_one c d e h),
-      ap (λ l. total (λ (p : ClientPart). cond (eqb p.number c) 0 (asked_by d p.answers)) l) b.clients_are)
+  others_added c d = omega (
+    arith,
+    b.gathered.a.added (λ (a : Added). cond (eqb a.driver d) (cond (eqb a.client c) 0 a.count) 0),
+    b.unites.added (λ (a : Added). cond (eqb a.driver d) (cond (eqb a.client c) 0 a.count) 0),
+    sum_le (λ (w : View). added_else c d w.added) (λ (p : ClientPart). cond (eqb p.number c) 0 (asked_by d p.answers)) b.clients (λ e h. else_one c d e h),
+    ap (λ l. total (λ (p : ClientPart). cond (eqb p.number c) 0 (asked_by d p.answers)) l) b.clients_are,
+  )

@@ -91,27 +91,36 @@ granted c d n (Err (Again at hi m)) = refl
 
 -- a draw whose word was found there
 drawn : (d n : ℕ) (answer : Answer) (old new : View) → 0 < n → HasTaken d n answer old new → ClientTold (Took d n answer) old new
-drawn d n (Ok b) old new some t = (record {
-  some = (omega (arith, some, t.tells.2.count), t.tells.2.within);
-  count = t.tells.2.count;
-  driver = t.tells.2.driver;
-  above = record { term = omega (arith, t.tells.1, t.tells.2.term); last = t.tells.2.above.by_number };
-  seen = t.seen;
-}, inr t.added)
+drawn d n (Ok b) old new some t = (
+  record {
+    some = (omega (arith, some, t.tells.2.count), t.tells.2.within);
+    count = t.tells.2.count;
+    driver = t.tells.2.driver;
+    above = record { term = omega (arith, t.tells.1, t.tells.2.term); last = t.tells.2.above.by_number };
+    seen = t.seen;
+  },
+  inr t.added,
+)
 drawn d n (Err NotLeader) old new some t = (subst (λ w. HasLooked d w old new) t.tells (put_there old.looks new.looks [] (record { client = old.client; driver = d; word = t.word; seen = old.seen }) t.looks), t.seen, t.added)
-drawn d n (Err (Stale term)) old new some t = (record {
-  term_is = t.tells.2;
-  word = t.word;
-  some = t.tells.0;
-  below = omega (arith, t.tells.1, t.tells.2);
-  look = put_there old.looks new.looks [] (record { client = old.client; driver = d; word = t.word; seen = old.seen }) t.looks;
-  seen = t.seen;
-}, t.added)
-drawn d n (Err (Again at hi m)) old new some t = (record {
-  count = t.tells.3;
-  refusal = subst (λ k. Contains new.refusals (record { client = old.client; driver = d; at = at; hi = hi; count = k; sum = added_by old.client d old.added })) t.tells.3 (put_there old.refusals new.refusals [] (record { client = old.client; driver = d; at = at; hi = hi; count = m; sum = added_by old.client d old.added }) t.refusals);
-  seen = t.seen;
-}, t.added)
+drawn d n (Err (Stale term)) old new some t = (
+  record {
+    term_is = t.tells.2;
+    word = t.word;
+    some = t.tells.0;
+    below = omega (arith, t.tells.1, t.tells.2);
+    look = put_there old.looks new.looks [] (record { client = old.client; driver = d; word = t.word; seen = old.seen }) t.looks;
+    seen = t.seen;
+  },
+  t.added,
+)
+drawn d n (Err (Again at hi m)) old new some t = (
+  record {
+    count = t.tells.3;
+    refusal = subst (λ k. Contains new.refusals (record { client = old.client; driver = d; at = at; hi = hi; count = k; sum = added_by old.client d old.added })) t.tells.3 (put_there old.refusals new.refusals [] (record { client = old.client; driver = d; at = at; hi = hi; count = m; sum = added_by old.client d old.added }) t.refusals);
+    seen = t.seen;
+  },
+  t.added,
+)
 
 taken : (d n : ℕ) (answer : Answer) (old new : View) → 0 < n → HasTaken d n answer old new → PassKept (Took d n answer) old new
 taken d n answer old new some t = record {

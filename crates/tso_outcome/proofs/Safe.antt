@@ -33,10 +33,10 @@ is_safe run l = record {
     rises = l.batches.apart;
     follow = record { opening = run.setup.cell; claims = l.windows.windows.claims; are = l.windows.windows.are; rise = l.windows.windows.rise };
     inside = All-weaker (Contains (all_got run.clients)) (LiesInOne run.windows) (λ b h.
-      let d = l.batches.draws in
-      let r = All-contains (λ (x : Batch). (c : Claim) × Contains d.claims c × Inside c.window x) run.batches b d.draws.inside (moved batch_code batch_one (all_got run.clients) run.batches l.batches.got b h) in
-      record { window = r.0.window; one = subst (λ ws. Contains ws r.0.window) (sym d.are) (to_map (λ (c : Claim). c.window) d.claims r.0 r.1); inside = r.2 })
-      (all_got run.clients) (All-contains_itself (all_got run.clients));
+        let d = l.batches.draws in
+        let r = All-contains (λ (x : Batch). (c : Claim) × Contains d.claims c × Inside c.window x) run.batches b d.draws.inside (moved batch_code batch_one (all_got run.clients) run.batches l.batches.got b h) in
+        record { window = r.0.window; one = subst (λ ws. Contains ws r.0.window) (sym d.are) (to_map (λ (c : Claim). c.window) d.claims r.0 r.1); inside = r.2 })
+        (all_got run.clients) (All-contains_itself (all_got run.clients));
   };
   fair = λ part h before a after is. fair run part.number before a.said (l.batches.above part h before a after is) (l.refusals.again part h before a after is);
 }

@@ -86,18 +86,21 @@ module _ (run : Run) (b : CameBack run) where
         window = c.0.window;
         there = window_in run b c.0 c.1;
         term_is = c.2;
-        another = (made, λ (mine : c.0.window.driver ≡ e.part.number).
-        let f = driver_of_claim run b c.0 c.1 made in
-        let one : f.0 ≡ e = once (λ (x : DriverEnd). x.part.number) b.drivers b.drivers_once f.0 e f.1 h (sym (claim_is run b f.0 f.1 c.0 f.2).0 ∙ mine) in
-        let in_end : Contains (claims e.view) c.0 = subst (λ (x : DriverEnd). Contains (claims x.view) c.0) one f.2 in
-        ⊎_elim
-        (λ (z : (x : Claim) × Contains (claims new) x × (x.window.term ≡ c.0.window.term)). absurd (omega (arith, below z.0 z.1, z.2, c.2)))
-        (λ (z : (new.cell.term < c.0.window.term) × (c.0.window.term < 262144)). absurd (omega (arith, z.0, above.known, c.2)))
-        (drove_back new after e.view on c.0 in_end));
+        another = (
+          made,
+          λ (mine : c.0.window.driver ≡ e.part.number).
+              let f = driver_of_claim run b c.0 c.1 made in
+              let one : f.0 ≡ e = once (λ (x : DriverEnd). x.part.number) b.drivers b.drivers_once f.0 e f.1 h (sym (claim_is run b f.0 f.1 c.0 f.2).0 ∙ mine) in
+              let in_end : Contains (claims e.view) c.0 = subst (λ (x : DriverEnd). Contains (claims x.view) c.0) one f.2 in
+              ⊎_elim
+              (λ (z : (x : Claim) × Contains (claims new) x × (x.window.term ≡ c.0.window.term)). absurd (omega (arith, below z.0 z.1, z.2, c.2)))
+              (λ (z : (new.cell.term < c.0.window.term) × (c.0.window.term < 262144)). absurd (omega (arith, z.0, above.known, c.2)))
+              (drove_back new after e.view on c.0 in_end),
+        );
         above = λ now term lo hi line there.
-        let w = won_there (driver_view run.setup e.part.number) old before to line now term lo hi there in
-        let k = did.windows.kept w.0 w.1 in
-        omega (arith, below k.0 k.1, k.2.term, w.2);
+            let w = won_there (driver_view run.setup e.part.number) old before to line now term lo hi there in
+            let k = did.windows.kept w.0 w.1 in
+            omega (arith, below k.0 k.1, k.2.term, w.2);
       }
 
   keeps_found : (e : DriverEnd) → Contains b.drivers e → (before : List DriverAnswer) (said : DriverSaid) (after : List DriverAnswer) (old new : View) → Drove (driver_view run.setup e.part.number) before old → DriverDid said old new → Drove new after e.view
@@ -140,12 +143,18 @@ module _ (run : Run) (b : CameBack run) where
   silenced d h =
       let e = driver_of_word run b (record { driver = d; word = 0 }) h in
       let first : View = driver_view run.setup e.0.part.number in
-      let s = driver_at run b e.0 e.1 e.3.before e.3.one e.3.after e.3.is in
-      (e.0.part, subst (λ l. Contains l e.0.part) (sym b.drivers_are) (to_map (λ (x : DriverEnd). x.part) b.drivers e.0 e.1), sym e.2,
-      (e.3.one, subst (λ l. Contains l e.3.one) (sym e.3.is) (Contains-append_right e.3.before (e.3.one ∷ e.3.after) e.3.one (in_head e.3.one e.3.after)),
-      gave_up e.0.part.number e.3.before e.3.one.said s.old s.new s.did.told (drove_claimed e.0.part.number None first e.3.before s.old s.to (λ x q. absurd (cc q)))
-      (λ c z. ⊎_elim (λ (y : (x : Claim) × Contains (claims first) x × (x.window.term ≡ c.window.term)). in_nil y.0 y.1) (λ (y : (run.setup.cell.term < c.window.term) × (c.window.term < 262144)). omega (arith, y.0)) (drove_back first e.3.before s.old s.to c z))
-      e.3.publishes))
+      let s = driver_at run b e.0 e.1 e.3.before e.3.one e.3.after e.3.is in (
+        e.0.part,
+        subst (λ l. Contains l e.0.part) (sym b.drivers_are) (to_map (λ (x : DriverEnd). x.part) b.drivers e.0 e.1),
+        sym e.2,
+        (
+          e.3.one,
+          subst (λ l. Contains l e.3.one) (sym e.3.is) (Contains-append_right e.3.before (e.3.one ∷ e.3.after) e.3.one (in_head e.3.one e.3.after)),
+          gave_up e.0.part.number e.3.before e.3.one.said s.old s.new s.did.told (drove_claimed e.0.part.number None first e.3.before s.old s.to (λ x q. absurd (cc q)))
+              (λ c z. ⊎_elim (λ (y : (x : Claim) × Contains (claims first) x × (x.window.term ≡ c.window.term)). in_nil y.0 y.1) (λ (y : (run.setup.cell.term < c.window.term) × (c.window.term < 262144)). omega (arith, y.0)) (drove_back first e.3.before s.old s.to c z))
+              e.3.publishes,
+        ),
+      )
 
   window_of : (w : Window) → Contains run.windows w → (c : Claim) × Contains b.claims c × (c.window ≡ w)
   window_of w h = in_map (λ (c : Claim). c.window) b.claims w (subst (λ l. Contains l w) b.windows_are h)

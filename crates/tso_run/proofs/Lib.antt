@@ -2,3 +2,7 @@ pub mod Pairs
 pub mod Lines
 pub mod Rows
 pub mod Starting
+pub mod Moving
+pub mod Ending
+pub mod Leaving
+pub mod Lawfully

@@ -1,10 +1,9 @@
 -- The workers of a run, made one by one.
-use Rattle.std.proofs.Common.{◌≡◌, ℕ, ◌+◌, ◌-◌, ◌<◌, ◌≤◌, List, [], ◌∷◌, ◌++◌, false, sym, refl, ap, ◌∙◌, subst, arith}
+use Rattle.std.proofs.Common.{◌≡◌, ℕ, ◌+◌, ◌-◌, ◌≤◌, List, [], ◌∷◌, ◌++◌, false, sym, refl, ap, ◌∙◌, subst, arith}
 use Rattle.std.specs.Prelude.{map, All}
 use Rattle.std.proofs.lemmas.List.Elements.{All-push, All-head, All-tail, All-nil}
 use Rattle.atomic_table.specs.Seated.{TableId}
 use Rattle.pd_turn.specs.Turns.{TurnValue}
-use Rattle.tso_model.specs.declared.view.View.{View}
 use Rattle.tso_model.specs.declared.view.Setup.{Setup}
 use Rattle.tso_model.specs.Moves.{numbers_from}
 use Rattle.tso_board.specs.declared.board.Board.{Board}
@@ -15,7 +14,7 @@ use Rattle.tso_board.specs.Boards.{board_id, setup_of}
 use Rattle.tso_board.specs.Passes.{IsPassOf, pass_view}
 use Rattle.tso_board.specs.Seats.{IsSeatOf, seat_view}
 use Rattle.tso_client.specs.Slips.{SlipValue, clients_of, new_slip}
-use Rattle.tso_driver.specs.Drivers.{IsDriverOf, seat_of, view_of}
+use Rattle.tso_driver.specs.Drivers.{seat_of}
 use Rattle.tso_run.specs.declared.caller.ClientWork.{ClientWork}
 use Rattle.tso_run.specs.declared.driving.DriverWork.{DriverWork}
 use Rattle.tso_run.specs.Works.{IsNewClient, IsNewDriver}

@@ -1,5 +1,5 @@
 -- What a run leaves, and that all its lines were answered.
-use Rattle.std.specs.Prelude.{◌≡◌, ◌≤◌, ℕ, List, [], map, All, Contains}
+use Rattle.std.specs.Prelude.{◌≡◌, List, map, All, Contains}
 use Rattle.std.specs.List.{AllZip}
 use Rattle.atomic_table.specs.Seated.{TableId}
 use Rattle.tso_model.specs.declared.view.Setup.{Setup}

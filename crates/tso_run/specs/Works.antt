@@ -1,5 +1,5 @@
 -- What a worker begins with, and what it has done.
-use Rattle.std.specs.Prelude.{◌≡◌, ◌++◌, ◌∷◌, ◌≤◌, ℕ, List, [], false, map}
+use Rattle.std.specs.Prelude.{◌≡◌, ◌++◌, ◌∷◌, List, [], false, map}
 use Rattle.atomic_table.specs.Seated.{TableId}
 use Rattle.pd_turn.specs.Turns.{TurnValue}
 use Rattle.tso_model.specs.Steps.{AtRest}
@@ -12,8 +12,6 @@ use Rattle.tso_driver.specs.Drivers.{IsDriverOf, view_of}
 use Rattle.tso_driver.specs.Driving.{DriverDid}
 use Rattle.tso_driver.specs.declared.said.DriverSaid.{DriverSaid}
 use Rattle.tso_client.specs.Slips.{SlipValue, clients_of, new_slip}
-use Rattle.tso_outcome.specs.declared.said.DriverAnswer.{DriverAnswer}
-use Rattle.tso_outcome.specs.declared.said.ClientAnswer.{ClientAnswer}
 use Rattle.tso_outcome.specs.declared.said.ClientSaid.{ClientSaid}
 use Rattle.tso_outcome.specs.Clients.{Client, ClientDid, Drew}
 use Rattle.tso_outcome.specs.Drives.{Drove}

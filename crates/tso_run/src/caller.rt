@@ -88,7 +88,12 @@ fn tell<N: BoardName, R: Wait>(
 }
 
 // Draws timestamps, and keeps the batch.
-fn draw(pass: &mut Pass, board: &Board, driver: u8, n: u64) -> Result<Result<Batch, DrawFault>, NoMemory>
+fn draw(
+    pass: &mut Pass,
+    board: &Board,
+    driver: u8,
+    n: u64,
+) -> Result<Result<Batch, DrawFault>, NoMemory>
     requires board { IsPassOf pass.old board.now }
     requires rest { AtRest (pass_view pass.old) }
     requires driver { (0 < driver) × (driver ≤ (setup_of board.now).drivers) }

@@ -56,8 +56,7 @@ fn begin<N: BoardName>(
     ensures ready { IfOk result (IsReady N.board board.now) }
 {
     let drivers = start::drivers(alloc, board, seats)?;
-    let count = u8::try_from(passes.len()).unwrap_or(u8::MAX);
-    let (post, slips) = Post::<N>::open(alloc, board, count)?;
+    let (post, slips) = Post::<N>::open(alloc, board, passes.len() as u8)?;
     let clients = start::clients(alloc, board, &post, passes, slips)?;
     Ok(Workers {
         post,

@@ -1,4 +1,4 @@
-use Rattle.std.proofs.Common.{rules, ◌≡◌, ◌++◌, List, subst}
+use Rattle.std.proofs.Common.{rules, ◌≡◌, ◌++◌, subst}
 use Rattle.std.specs.List.{AllZip}
 use Rattle.tso_run.proofs.Pairs.{all_zip-append}
 use Rattle.tso_run.proofs.halve.+fn-work_all-join_mut+arg2+fn-work_all-join_mut+arg3+work_all.Goals as goal
