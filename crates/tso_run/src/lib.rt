@@ -9,6 +9,8 @@ mod line;
 mod runner;
 mod shared;
 mod start;
+#[cfg(test)]
+mod tests;
 
 pub use end::{ClientAnswers, DriverAnswers};
 pub use line::{ClientAsk, ClientLine, DriverAsk, DriverLine};
