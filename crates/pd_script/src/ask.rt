@@ -4,14 +4,14 @@ ghost use Rattle.pd_script.specs.Asks.{alive_of, asked_of, beat_of, either_of, g
 ghost use Rattle.pd_script.specs.Refusals.{IsLineRefusal};
 ghost use Rattle.pd_script.specs.Words.{words};
 
+use crate::Reason;
 use crate::form::{address, key_form, labels};
 use crate::items::{downs, peers, pending};
 use crate::line::word;
-use crate::place::read_place;
+use crate::place::{Place, read_place};
 use crate::refusal::LineRefusal;
 use crate::split::next_word;
 use crate::verb::StoreVerb;
-use crate::{Place, Reason};
 use pd_types::{Downs, Epoch, Ids, Labels, Region, RegionBeat, Request};
 use std::alloc::Global;
 

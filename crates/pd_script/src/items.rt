@@ -3,9 +3,9 @@ ghost use Rattle.std.specs.Prelude.{◌≡◌, ◌∷◌, ◌<◌, length, IfOk,
 ghost use Rattle.pd_script.specs.Forms.{before_colon, downs_from, downs_of, ids_from, in_front, is_colon, is_separator, items_behind, items_of, peers_from, peers_of, pending_of, role_of, unless_colon};
 ghost use Rattle.pd_script.specs.Refusals.{IsLineRefusal};
 
-use crate::place::read_place;
+use crate::Reason;
+use crate::place::{Place, read_place};
 use crate::refusal::LineRefusal;
-use crate::{Place, Reason};
 use pd_types::{DownPeer, Downs, Ids, Peer, Peers, Role};
 use std::alloc::Global;
 

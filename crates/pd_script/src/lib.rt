@@ -20,8 +20,6 @@ mod verb;
 pub use act::{Act, Line};
 pub use laws::{each_place_has_its_range, stores_and_the_driver_ask, what_is_cut_is_the_whole};
 pub use limits::asker;
-pub use place::Place;
 pub use reading::read_script;
 pub use refusal::{Limited, Reason, ScriptRefusal};
 pub use script::{Lines, Mode, Script};
-pub use verb::{Event, Standing, StoreVerb, Verb};

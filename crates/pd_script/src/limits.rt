@@ -3,8 +3,9 @@ ghost use Rattle.std.specs.Prelude.{◌≡◌, ◌≤◌, ℕ, IfOk, option_to_l
 ghost use Rattle.pd_script.specs.Scripts.{act_by, act_of, acting, actor_by, actor_of, broken_by, client_of, driver_of, greatest, greatest_in, if_client, if_driver, line_of, asker, store_in, store_of, stores_in};
 ghost use Rattle.pd_script.specs.Table.{row};
 
+use crate::place::Place;
 use crate::verb::{Event, Numbered, Numbers, Places, Verb};
-use crate::{Act, Limited, Line, Place};
+use crate::{Act, Limited, Line};
 use pd_types::{Actor, NoMemory, Request};
 use std::alloc::Global;
 use std::collections::BTreeSet;

@@ -7,11 +7,11 @@ ghost use Rattle.pd_script.specs.Words.{words};
 ghost use Rattle.pd_script.specs.Table.{is_misplaced};
 
 use crate::ask::{Asked, read_asked};
-use crate::place::read_place;
+use crate::place::{Place, read_place};
 use crate::refusal::LineRefusal;
 use crate::split::next_word;
 use crate::verb::{Event, Numbers, Places, Standing, Verb, store_verb_of, verb_of};
-use crate::{Mode, Place, Reason};
+use crate::{Mode, Reason};
 use std::alloc::Global;
 
 /// The next word, which may not be missing.

@@ -4,7 +4,7 @@ ghost use Rattle.std.specs.Str.{bytes_eq};
 ghost use Rattle.pd_script.specs.Asks.{store_verb_of, store_word};
 ghost use Rattle.pd_script.specs.Table.{row, verb_of};
 
-use crate::Place;
+use crate::place::Place;
 use pd_types::Request;
 
 /// The first words of lines.

@@ -1,5 +1,5 @@
 -- The records of stores, by who said hello.
-use Rattle.std.proofs.Common.{refl, ◌≡◌, ◌≢◌, ℕ, zero, suc, ◌+◌, ◌-◌, ◌<◌, ◌≤◌, Bool, true, false, ◌||◌, cond, nat_eq, nat_lt, List, [], ◌∷◌, ◌++◌, length, get_or, map, ap, sym, subst, ◌∙◌, Option, Some, None, arith, ◌⊎◌, inl, inr}
+use Rattle.std.proofs.Common.{refl, ◌≡◌, ◌≢◌, ℕ, zero, suc, ◌<◌, Bool, true, false, ◌||◌, nat_eq, nat_lt, List, [], ◌∷◌, ◌++◌, length, get_or, map, ap, sym, subst, ◌∙◌, Option, Some, None, arith}
 use Rattle.std.proofs.lemmas.Bool.Decides.{nat_tests}
 use Rattle.std.proofs.lemmas.List.Elements.{All-append, filter_passes}
 use Rattle.std.proofs.lemmas.List.Kept.{AllPairs-cons, AllPairs-filter}
@@ -16,7 +16,7 @@ use Rattle.store_table.proofs.MapLemmas.{entry_placed, entry_others}
 use Rattle.pd_state.specs.declared.entry.Entry.{Entry}
 use Rattle.pd_state.specs.declared.reply.Reply.{Reply}
 use Rattle.pd_state.specs.declared.reply.Reply.TheVariants as replies
-use Rattle.pd_state.specs.State.{greeting, record_at, kept_state, with_record, greeted_by, records_by, records_of, store_of, part_of}
+use Rattle.pd_state.specs.State.{greeting, record_at, kept_state, with_record, records_by, records_of, store_of, part_of}
 use Rattle.pd_state.specs.Known.{where_put, greets, is_hello, LastHello, AreKnown}
 use Rattle.pd_state.proofs.Rows.{entry_map, placed_map}
 

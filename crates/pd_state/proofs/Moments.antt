@@ -1,5 +1,5 @@
 -- The clock, by the moments of the entries, and the ends of a term.
-use Rattle.std.proofs.Common.{refl, ◌≡◌, ◌≢◌, ℕ, zero, suc, ◌<◌, ◌≤◌, List, [], ◌∷◌, length, max, ap, sym, ◌∙◌, subst, Option, Some, None, arith, ◌⊎◌, inl, inr}
+use Rattle.std.proofs.Common.{refl, ◌≡◌, ◌≢◌, ℕ, suc, ◌≤◌, List, [], ◌∷◌, max, ap, sym, ◌∙◌, Some, None, arith, ◌⊎◌, inl, inr}
 use Rattle.std.proofs.lemmas.List.Elements.{All-cons}
 use Rattle.std.specs.List.{All, Any}
 use Rattle.std.specs.Option.{option_map}

@@ -1,11 +1,10 @@
 -- Accepted heartbeats passed their own tests, so what stands is their table.
-use Rattle.std.proofs.Common.{refl, ◌≡◌, ℕ, Bool, true, false, cond, List, [], ◌∷◌, Option, Some, None, subst, sym, ◌∙◌}
+use Rattle.std.proofs.Common.{refl, ◌≡◌, ℕ, List, [], ◌∷◌, Option, Some, None, subst}
 use Rattle.std.proofs.lemmas.List.Elements.{All-nil, All-cons}
 use Rattle.std.specs.List.{All}
 use Rattle.std.specs.Option.{option_map}
-use Rattle.pd_types.specs.BeatCheck.{first_fault, fails}
+use Rattle.pd_types.specs.BeatCheck.{first_fault}
 use Rattle.pd_types.specs.declared.beat.BeatFault.{BeatFault}
-use Rattle.pd_types.specs.declared.beat.BeatFault.TheVariants.{NoPeers, TooManyPeers, DoublePeer, DoubleStore, LeaderAbsent, LeaderNotVoter, BadRange, LongKey}
 use Rattle.pd_types.specs.declared.oracle.Actor.{Actor}
 use Rattle.pd_types.specs.declared.region.RegionBeat.{RegionBeat}
 use Rattle.pd_types.specs.declared.request.Request.{Request}

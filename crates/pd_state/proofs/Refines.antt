@@ -1,5 +1,5 @@
 -- What one entry more makes of the state is what its step made of the tables.
-use Rattle.std.proofs.Common.{refl, ◌≡◌, ℕ, Bool, true, false, cond, nat_eq, nat_le, nat_lt, List, [], ◌∷◌, ◌++◌, map, length, max, reverse, Option, Some, None, ap, sym, ◌∙◌, subst, arith}
+use Rattle.std.proofs.Common.{refl, ◌≡◌, ℕ, Bool, true, false, cond, nat_eq, List, [], ◌∷◌, ◌++◌, map, max, reverse, Option, Some, None, ap, sym, ◌∙◌, subst, arith}
 use Rattle.std.proofs.lemmas.Bool.Decides.{nat_tests}
 use Rattle.std.proofs.lemmas.List.{reverse-append}
 use Rattle.std.specs.Option.{option_map}
@@ -9,27 +9,21 @@ use Rattle.pd_types.specs.declared.request.Request.{Request}
 use Rattle.pd_types.specs.declared.request.Request.TheVariants as ask
 use Rattle.pd_types.specs.declared.store.Label.{Label}
 use Rattle.pd_types.specs.declared.store.StoreRec.{StoreRec}
-use Rattle.pd_types.specs.declared.store.StoreState.{StoreState}
-use Rattle.pd_types.specs.declared.store.StoreState.TheVariants.{Up, Offline, Tombstone}
 use Rattle.region_tree.specs.Standing.{table_of}
-use Rattle.region_tree.specs.Stale.{put_beat}
 use Rattle.region_tree.proofs.Stand.{stand_more}
 use Rattle.store_table.specs.declared.entry.StoreEntry.{StoreEntry}
 use Rattle.store_table.specs.Standing.{later}
-use Rattle.store_table.specs.Calls.{answered, heard as heard_entry}
-use Rattle.store_table.specs.Entries.{entry_at, state_at, placed, changed}
-use Rattle.heartbeat.specs.declared.intake.Intake.{Intake}
-use Rattle.heartbeat.specs.declared.intake.Intake.TheVariants as intakes
-use Rattle.heartbeat.specs.Intakes.{intake_of}
+use Rattle.store_table.specs.Calls.{heard as heard_entry}
+use Rattle.store_table.specs.Entries.{entry_at, state_at, changed}
 use Rattle.pd_state.specs.declared.entry.Entry.{Entry}
 use Rattle.pd_state.specs.declared.part.Part.{Part}
 use Rattle.pd_state.specs.declared.reply.Reply.{Reply}
 use Rattle.pd_state.specs.declared.reply.Reply.TheVariants as replies
-use Rattle.pd_state.specs.Since.{begun, since_by, since}
-use Rattle.pd_state.specs.State.{moment_of, clock_of, term_of, began_of, accepted_by, beats_by, beats_of, heard, heartbeat, greeting, record_at, kept_state, with_record, greeted_by, records_of, store_of, part_of, part_after}
-use Rattle.pd_state.specs.Legal.{hello_reply, alive_reply, beat_reply, begin_reply, term_reply, first_reply, IsLegalAfter, IsLegal}
+use Rattle.pd_state.specs.Since.{since_by, since}
+use Rattle.pd_state.specs.State.{clock_of, term_of, began_of, accepted_by, beats_of, heard, heartbeat, greeting, record_at, kept_state, greeted_by, records_of, store_of, part_of, part_after}
+use Rattle.pd_state.specs.Legal.{alive_reply, begin_reply, term_reply, first_reply, IsLegalAfter, IsLegal}
 use Rattle.pd_state.specs.Clusters.{is_refused, with_clock}
-use Rattle.pd_state.specs.Steps.{greeted, put_after, heard_after, beat_after, changed_part, new_part, begun_part, stepped}
+use Rattle.pd_state.specs.Steps.{greeted, put_after, heard_after, beat_after, changed_part, new_part, stepped}
 use Rattle.pd_state.proofs.Rows.{entry_map, placed_map, unknown_before, found_id}
 
 -- an entry, by its parts

@@ -1,17 +1,14 @@
 -- Records of stores by rising id, and their entries.
-use Rattle.std.proofs.Common.{refl, ◌≡◌, ℕ, ◌<◌, Bool, true, false, cond, nat_eq, nat_lt, List, [], ◌∷◌, ◌++◌, map, ap, sym, ◌∙◌, subst, Option, Some, None, arith, ◌⊎◌, inl, inr}
+use Rattle.std.proofs.Common.{refl, ◌≡◌, ℕ, Bool, true, false, cond, nat_eq, nat_lt, List, [], ◌∷◌, ◌++◌, map, ap, sym, ◌∙◌, subst, Option, Some, None, arith}
 use Rattle.std.proofs.lemmas.Bool.Decides.{nat_tests}
 use Rattle.std.specs.List.{filter, find}
 use Rattle.std.specs.Option.{option_map}
-use Rattle.pd_types.specs.declared.store.Label.{Label}
 use Rattle.pd_types.specs.declared.store.StoreRec.{StoreRec}
 use Rattle.pd_types.specs.declared.store.StoreState.{StoreState}
-use Rattle.pd_types.specs.declared.store.StoreState.TheVariants.{Up, Offline, Tombstone}
 use Rattle.store_table.specs.declared.entry.StoreEntry.{StoreEntry}
-use Rattle.store_table.specs.Standing.{later}
 use Rattle.store_table.specs.Calls.{loaded, answered, heard as heard_entry}
 use Rattle.store_table.specs.Entries.{entry_at, state_at, placed, changed}
-use Rattle.pd_state.specs.State.{heard, record_at, kept_state, with_record}
+use Rattle.pd_state.specs.State.{record_at, with_record}
 use Rattle.pd_state.specs.Steps.{greeted}
 
 -- what stands behind what was filtered

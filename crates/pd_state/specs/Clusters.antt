@@ -7,7 +7,7 @@ use Rattle.pd_state.specs.declared.part.Part.{Part}
 use Rattle.pd_state.specs.declared.reply.Reply.{Reply}
 use Rattle.pd_state.specs.declared.reply.Reply.TheVariants as replies
 use Rattle.pd_state.specs.State.{moment_of, part_after}
-use Rattle.pd_state.specs.Legal.{IsLegal, IsLegalAfter}
+use Rattle.pd_state.specs.Legal.{IsLegalAfter}
 
 -- a cluster: its driver, its journal, whether want of memory ended it, and its tables
 pub record ClusterValue : Type 0 where

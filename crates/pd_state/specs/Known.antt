@@ -1,5 +1,5 @@
 -- Which stores a cluster knows: those that said hello in its term (kvproto pdpb, `PutStore`). Each list of entries has the latest first.
-use Rattle.std.specs.Prelude.{◌≡◌, ℕ, Bool, false, nat_eq, List, ◌∷◌, ◌++◌, Option, Some}
+use Rattle.std.specs.Prelude.{◌≡◌, ℕ, Bool, false, nat_eq, List, ◌∷◌, ◌++◌, Some}
 use Rattle.std.specs.List.{list_any}
 use Rattle.std.specs.Option.{is_some}
 use Rattle.pd_types.specs.declared.request.Request.{Request}

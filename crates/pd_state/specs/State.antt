@@ -1,5 +1,5 @@
 -- What the entries of a term part say of the present: its clock, stores and regions. Each list of entries has the latest first.
-use Rattle.std.specs.Prelude.{ℕ, Bool, nat_eq, nat_lt, max, if◌then◌else◌, List, [], ◌∷◌, ◌++◌, filter, find, map, Option, Some, None, option_map}
+use Rattle.std.specs.Prelude.{ℕ, nat_eq, nat_lt, max, if◌then◌else◌, List, [], ◌∷◌, ◌++◌, filter, find, map, Option, Some, None, option_map}
 use Rattle.pd_types.specs.declared.region.RegionBeat.{RegionBeat}
 use Rattle.pd_types.specs.declared.request.Request.{Request}
 use Rattle.pd_types.specs.declared.request.Request.TheVariants as ask

@@ -290,6 +290,24 @@ fn agrees_on_four_peers_of_two_rules(rt: HostRuntime) -> Result<(), Fail> {
     Ok(())
 }
 
+// Four peers suit any of four rules of one peer each: each thirteenth of the 65,536 ways, which is a
+// sample over all orders of the peers and of the rules.
+#[test]
+fn agrees_on_a_sample_of_four_peers_of_four_rules(rt: HostRuntime) -> Result<(), Fail> {
+    let alloc = rt.alloc();
+    let stores = labelled_stores(alloc)?;
+    let counts = [1, 1, 1, 1];
+    let rules = labelled_rules(alloc, &counts)?;
+    for turn in 0..5_042u32 {
+        let masks = digits(turn.saturating_mul(13), 16);
+        assert!(rt;
+            agrees(alloc, &stores, &rules, &counts, &masks, 4)?,
+            "masks {masks:?}"
+        );
+    }
+    Ok(())
+}
+
 // Two rules of one peer each ask for the zone z1, where only the first peer is.
 #[test]
 fn two_rules_of_one_zone_do_not_fit(rt: HostRuntime) -> Result<(), Fail> {

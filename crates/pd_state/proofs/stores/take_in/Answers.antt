@@ -1,4 +1,4 @@
-use Rattle.std.proofs.Common.{◌≡◌, Some, None, refl, sym, ap, ◌∙◌}
+use Rattle.std.proofs.Common.{Some, refl, sym, ap, ◌∙◌}
 use Rattle.store_table.specs.Calls.{heard, loaded, known_refusal}
 use Rattle.store_table.specs.Entries.{changed, state_at}
 use Rattle.pd_state.proofs.Rows.{changed_placed, state_placed}

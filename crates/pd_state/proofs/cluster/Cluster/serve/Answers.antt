@@ -1,8 +1,6 @@
-use Rattle.std.proofs.Common.{◌≡◌, ◌++◌, ◌∷◌, [], List, Option, reverse, false, true, sym, ap, subst, refl, ◌∙◌}
+use Rattle.std.proofs.Common.{◌++◌, ◌∷◌, [], reverse, sym, ap, subst, refl, ◌∙◌}
 use Rattle.pd_state.specs.Clusters.{with_clock}
 use Rattle.pd_state.specs.Legal.{IsLegalAfter}
-use Rattle.pd_state.specs.declared.entry.Entry.{Entry}
-use Rattle.pd_state.specs.declared.part.Part.{Part}
 use Rattle.pd_state.proofs.Refines.{entry_of, served, leaves}
 use Rattle.pd_state.proofs.cluster.Cluster.serve.Goals as goal
 
