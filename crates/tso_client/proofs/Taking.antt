@@ -1,21 +1,18 @@
 -- The steps of a draw, and what they do to what the client knows.
-use Rattle.std.proofs.Common.{◌≡◌, ◌≢◌, ℕ, ◌+◌, ◌-◌, ◌/◌, ◌%◌, ◌<◌, ◌≤◌, ◌⊎◌, cond, true, false, [], ◌∷◌, ◌++◌, sym, refl, ap, ◌∙◌, subst, inl, inr, ⊎_elim, arith, ne_eqb, le-ltb}
+use Rattle.std.proofs.Common.{◌≡◌, ℕ, ◌/◌, ◌%◌, ◌<◌, cond, true, false, [], ◌∷◌, ◌++◌, sym, refl, ap, ◌∙◌, subst, inl, inr, ⊎_elim, arith, ne_eqb, le-ltb}
 use Rattle.std.specs.Prelude.{Some, None, Ok, Err, nat_lt}
 use Rattle.std.proofs.lemmas.List.{append-nil}
 use mathlib.Core.Logic.{dite}
 use native.Mathlib.Decide.{ℕ_discrete}
 use Rattle.pd_types.specs.declared.oracle.Batch.{Batch}
-use Rattle.pd_types.specs.declared.oracle.Seen.{Seen}
 use Rattle.tso_model.specs.declared.view.View.{View}
-use Rattle.tso_model.specs.declared.entries.Refusal.{Refusal}
 use Rattle.tso_model.specs.Words.{passes}
 use Rattle.tso_model.specs.History.{added_by}
-use Rattle.tso_model.specs.Steps.{AtRest, fresh, looked, refused, adds, granted, hand, HasHand, batch_of}
-use Rattle.tso_model.specs.Sound.{IsUnseen}
-use Rattle.tso_board.specs.Told.{Armed, NotArmed, Drawn, NotDrawn}
+use Rattle.tso_model.specs.Steps.{fresh, looked, refused, adds}
+use Rattle.tso_board.specs.Told.{NotArmed, Drawn, NotDrawn}
 use Rattle.tso_client.specs.declared.draw.DrawFault.TheVariants.{NotLeader, Stale, Again}
-use Rattle.tso_client.specs.Draws.{Answer, Took, Adds, Tells, seen_after, grants_by, refusals_by, IsAbove, IsGranted}
-use Rattle.tso_client.specs.Takes.{IsInHand, ArmsFirst, TakesOver, Takes}
+use Rattle.tso_client.specs.Draws.{Answer, Took, Adds}
+use Rattle.tso_client.specs.Takes.{IsInHand, ArmsFirst, Takes}
 
 -- the view with the looked up limit in hand, and with a count armed
 abbrev pub with_limit : ℕ → ℕ → View → View

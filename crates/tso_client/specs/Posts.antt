@@ -1,5 +1,5 @@
 -- The journal of the post: what clients told and heard, in the order in which it was done (own choice).
-use Rattle.std.specs.Prelude.{◌≡◌, ℕ, ◌<◌, ◌≤◌, List, [], ◌∷◌, ◌++◌, map, All, cond, ◌==◌, filter}
+use Rattle.std.specs.Prelude.{◌≡◌, ℕ, List, [], ◌∷◌, ◌++◌, cond, ◌==◌, filter}
 use Rattle.std.specs.List.{flat_map}
 use Rattle.pd_types.specs.declared.oracle.Seen.{Seen}
 use Rattle.tso_client.specs.declared.entry.PostEntry.{PostEntry}

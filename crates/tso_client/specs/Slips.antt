@@ -1,7 +1,6 @@
 -- What contracts see of a post and of a client's slip.
 use Rattle.std.specs.Prelude.{◌≡◌, ℕ, ◌<◌, ◌≤◌, List, [], ◌∷◌, ◌++◌, length, None}
 use Rattle.pd_turn.specs.Turns.{TicketValue, TurnValue, ticket_value}
-use Rattle.pd_types.specs.declared.oracle.Seen.{Seen}
 use Rattle.tso_client.specs.declared.entry.PostEntry.{PostEntry}
 use Rattle.tso_client.specs.declared.entry.PostWhat.{PostWhat}
 use Rattle.tso_client.specs.Posts.{entries_of}

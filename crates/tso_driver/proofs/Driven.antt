@@ -1,23 +1,23 @@
 -- A lead, a tick and a resignation from what the board tells of their steps, and what they do to what the driver knows.
-use Rattle.std.proofs.Common.{◌≡◌, ◌≢◌, ℕ, ◌+◌, ◌-◌, ◌*◌, ◌<◌, ◌≤◌, eqb, cond, Bool, true, false, sym, refl, ap, ◌∙◌, subst, inl, inr, ⊎_elim, arith, max, ne_eqb}
+use Rattle.std.proofs.Common.{◌≡◌, ◌≢◌, ℕ, ◌+◌, ◌-◌, ◌*◌, ◌<◌, eqb, cond, Bool, true, false, sym, refl, ap, ◌∙◌, subst, inl, inr, ⊎_elim, arith, max, ne_eqb}
 use Rattle.std.specs.Prelude.{Option, Some, None, nat_lt}
 use Rattle.std.proofs.lemmas.Bool.{leb-true}
 use Rattle.pd_types.specs.declared.oracle.CellWord.{CellWord}
 use Rattle.pd_types.specs.declared.oracle.Window.{Window}
 use Rattle.tso_model.specs.declared.entries.Claim.{Claim}
 use Rattle.tso_model.specs.declared.view.View.{View}
-use Rattle.tso_model.specs.Words.{packed, IsOpen}
-use Rattle.tso_model.specs.Steps.{held, held_or, HasClaim, knows, claimed, new_claim, saves, saved_claim, raised, marks, publishes}
+use Rattle.tso_model.specs.Words.{IsOpen}
+use Rattle.tso_model.specs.Steps.{held, held_or, HasClaim, knows, claimed, new_claim, saves, saved_claim, raised, marks}
 use Rattle.tso_model.specs.Plan.{end_of, past_clock, lead_next, tick_next, saves_for}
 use Rattle.tso_model.proofs.Basics.{by_bool, by_lt}
-use Rattle.tso_board.specs.Told.{IsCell, Rises, IsHigher, Missed, Read, Claimed, Saved, given_up, told_limit, holding, MayPublish}
+use Rattle.tso_board.specs.Told.{Rises, Missed, Read, Claimed, Saved, given_up, told_limit, holding, MayPublish}
 use Rattle.tso_driver.specs.declared.said.DriverSaid.TheVariants.{Led, Ticked, Resigned}
 use Rattle.tso_driver.specs.declared.reply.LeadReply.{LeadReply}
 use Rattle.tso_driver.specs.declared.reply.LeadReply.TheVariants.{Won, Beaten, Lost as LeadLost, TermsSpent, ClockRange as LeadPast}
 use Rattle.tso_driver.specs.declared.reply.TickReply.{TickReply}
 use Rattle.tso_driver.specs.declared.reply.TickReply.TheVariants.{Moved, Idle, Lost as TickLost, ClockRange as TickPast, NotLeading}
 use Rattle.tso_driver.specs.Driving.{DriverDid}
-use Rattle.tso_driver.specs.Moments.{MayCampaign, claims_next, opens, GaveUp, LeadsOver, Leads, Goes, NeedsSave, probes, JustMoves, SavesAndMoves, TicksOver, TicksWith, Ticks, ResignsWith, Resigns}
+use Rattle.tso_driver.specs.Moments.{MayCampaign, claims_next, opens, Leads, probes, JustMoves, SavesAndMoves, TicksOver, TicksWith, Ticks, ResignsWith, Resigns}
 use Rattle.tso_driver.specs.Settled.{IsSettled}
 use Rattle.tso_driver.proofs.Leads.{led_spent, led_past, led_beaten, led_lost, led_won, won_lo, not_leading, not_resigned, resigned, ticked_idle, ticked_past, ticked_moved, ticked_lost, ticked_saved, some-inj}
 

@@ -1,30 +1,25 @@
 -- The steps of a lead, of a tick and of a resignation are a driver's call.
-use Rattle.std.proofs.Common.{◌≡◌, ◌≢◌, ℕ, zero, suc, ◌+◌, ◌-◌, ◌*◌, ◌/◌, ◌%◌, ◌<◌, ◌≤◌, ◌⊎◌, eqb, cond, Bool, true, false, List, [], ◌∷◌, ◌++◌, sym, refl, ap, ◌∙◌, subst, inl, inr, ⊎_elim, arith, max, eq-eqb, ne_eqb}
-use Rattle.std.specs.Prelude.{Contains, map, Option, Some, None, option_to_list, All, nat_lt, nat_le}
+use Rattle.std.proofs.Common.{◌≡◌, ℕ, ◌+◌, ◌-◌, ◌*◌, ◌/◌, ◌%◌, ◌<◌, ◌⊎◌, eqb, cond, true, false, List, [], ◌∷◌, ◌++◌, sym, refl, ap, ◌∙◌, subst, inl, inr, ⊎_elim, arith, max, ne_eqb}
+use Rattle.std.specs.Prelude.{Contains, Option, Some, None, option_to_list, nat_lt, nat_le}
 use Rattle.std.proofs.lemmas.Bool.{leb-true}
 use Rattle.std.proofs.lemmas.List.{append-nil}
-use Rattle.std.proofs.lemmas.List.Elements.{Contains-append_left, Contains-append_right, Contains-push, Contains-push_cases, Contains-append_cases, All-contains}
-use mathlib.Core.Logic.{dite}
-use native.Mathlib.Decide.{ℕ_discrete, dec_le}
+use Rattle.std.proofs.lemmas.List.Elements.{Contains-append_left, Contains-push, Contains-push_cases}
 use Rattle.pd_types.specs.declared.oracle.CellWord.{CellWord}
 use Rattle.pd_types.specs.declared.oracle.Window.{Window}
 use Rattle.tso_model.specs.declared.entries.Claim.{Claim}
-use Rattle.tso_model.specs.declared.entries.Start.{Start}
 use Rattle.tso_model.specs.declared.entries.Found.{Found}
 use Rattle.tso_model.specs.declared.entries.Published.{Published}
 use Rattle.tso_model.specs.declared.view.View.{View}
-use Rattle.tso_model.specs.declared.view.Setup.{Setup}
-use Rattle.tso_model.specs.Words.{packed, cell_of, window, claim, IsOpen}
+use Rattle.tso_model.specs.Words.{packed, window, claim, IsOpen}
 use Rattle.tso_model.specs.History.{claims, Extends, greatest}
-use Rattle.tso_model.specs.Steps.{held, held_or, HasClaim, knows, claimed, new_claim, saves, saved_claim, raised, publishes}
+use Rattle.tso_model.specs.Steps.{held, held_or, knows, claimed, new_claim, saves, saved_claim, raised, publishes}
 use Rattle.tso_model.specs.Plan.{end_of, past_clock, lead_next, tick_next, saves_for}
-use Rattle.tso_model.proofs.Basics.{by_bool, by_eq, by_lt, in_head, in_tail, in_cons, in_nil}
-use Rattle.tso_driver.specs.declared.said.DriverSaid.{DriverSaid}
+use Rattle.tso_model.proofs.Basics.{by_bool, by_eq, by_lt}
 use Rattle.tso_driver.specs.declared.said.DriverSaid.TheVariants.{Led, Ticked, Resigned}
 use Rattle.tso_driver.specs.declared.reply.LeadReply.TheVariants.{Won, Beaten, Lost as LeadLost, TermsSpent, ClockRange as LeadPast}
 use Rattle.tso_driver.specs.declared.reply.TickReply.TheVariants.{Moved, Idle, Lost as TickLost, ClockRange as TickPast, NotLeading}
 use Rattle.tso_board.specs.Told.{IsHigher, Rises, given_up, holding}
-use Rattle.tso_driver.specs.Driving.{DriverDid, DriverTold, ClaimsGrow, IsFoundAbove, HasWon, HasTicked, IsTick, held_after, end_after, moved_to}
+use Rattle.tso_driver.specs.Driving.{DriverDid, ClaimsGrow, moved_to}
 
 -- WINDOWS
 grow_same : (old new : View) → claims new ≡ claims old → ClaimsGrow old new

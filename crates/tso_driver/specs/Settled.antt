@@ -1,5 +1,5 @@
 -- When a seat can be a driver's between two calls.
-use Rattle.std.specs.Prelude.{◌≡◌, ◌<◌, true}
+use Rattle.std.specs.Prelude.{◌≡◌, true}
 use Rattle.tso_model.specs.declared.view.View.{View}
 use Rattle.tso_model.specs.Words.{IsOpen}
 use Rattle.tso_model.specs.Steps.{held}

@@ -1,4 +1,4 @@
-use Rattle.std.proofs.Common.{◌≡◌, ℕ, [], ◌∷◌, ◌++◌, ap, ◌∙◌, sym}
+use Rattle.std.proofs.Common.{[], ◌∷◌, ◌++◌, ap, ◌∙◌, sym}
 use Rattle.std.specs.Prelude.{None}
 use Rattle.pd_turn.specs.Turns.{ticket_value}
 use Rattle.tso_client.specs.Logs.{tale_of, what_of}

@@ -1,4 +1,4 @@
-use Rattle.std.proofs.Common.{◌≡◌, ℕ, [], ◌∷◌, ◌++◌, List, ap, ◌∙◌, sym, subst}
+use Rattle.std.proofs.Common.{[], ◌∷◌, ◌++◌, List, ◌∙◌, sym, subst}
 use Rattle.tso_client.specs.declared.entry.PostEntry.{PostEntry}
 use Rattle.tso_client.specs.Slips.{entry_of}
 use Rattle.tso_client.specs.Logs.{IsLog}

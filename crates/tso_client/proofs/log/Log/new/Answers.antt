@@ -1,4 +1,3 @@
-use Rattle.std.proofs.Common.{◌∙◌}
 use Rattle.tso_client.proofs.Posting.{opens}
 use Rattle.tso_client.proofs.log.Log.new.Goals as goal
 

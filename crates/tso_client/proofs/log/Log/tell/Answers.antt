@@ -1,4 +1,4 @@
-use Rattle.std.proofs.Common.{◌≡◌, ℕ, [], ◌∷◌, ◌++◌, List, ap, ◌∙◌, sym, subst}
+use Rattle.std.proofs.Common.{[], ◌∷◌, ◌++◌, List, ◌∙◌, sym, subst}
 use Rattle.tso_board.specs.declared.note.Note.{Note}
 use Rattle.tso_client.specs.declared.entry.PostEntry.{PostEntry}
 use Rattle.tso_client.specs.declared.entry.PostWhat.TheVariants.{Told}

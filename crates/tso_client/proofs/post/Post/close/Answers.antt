@@ -1,8 +1,8 @@
-use Rattle.std.proofs.Common.{◌≡◌, ap, ◌∙◌, sym, subst}
+use Rattle.std.proofs.Common.{◌≡◌, ◌∙◌, sym, subst}
 use Rattle.std.specs.Prelude.{All}
 use Rattle.pd_turn.specs.Turns.{IsFree, IsToldBy}
 use Rattle.tso_client.specs.Logs.{tale_of}
-use Rattle.tso_client.specs.Slips.{IsInJournal, SlipValue, ticket_by}
+use Rattle.tso_client.specs.Slips.{IsInJournal, SlipValue}
 use Rattle.tso_client.proofs.Slipping.{are_free, are_told}
 use Rattle.tso_client.proofs.post.Post.close.Goals as goal
 

@@ -1,4 +1,4 @@
-use Rattle.std.proofs.Common.{◌≤◌, length, map, ap, ◌∙◌, sym, subst, arith}
+use Rattle.std.proofs.Common.{length, map, ap, ◌∙◌, sym, subst, arith}
 use Rattle.std.specs.Prelude.{All}
 use Rattle.pd_turn.specs.Turns.{AreApart, new_ticket}
 use Rattle.tso_client.specs.Slips.{IsOpen, new_slip, slip_by}
