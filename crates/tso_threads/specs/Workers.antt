@@ -8,8 +8,9 @@ use Rattle.tso_board.specs.declared.seat.DriverSeat.{DriverSeat}
 use Rattle.tso_board.specs.Seats.{IsSeatOf, seat_view}
 use Rattle.tso_driver.specs.Settled.{IsSettled}
 use Rattle.tso_board.specs.Passes.{IsPassOf, pass_view}
-use Rattle.tso_driver.specs.Drivers.{IsDriverOf}
+use Rattle.tso_driver.specs.Drivers.{IsDriverOf, spare_of}
 use Rattle.tso_threads.specs.declared.crew.Drawer.{Drawer}
+use Rattle.tso_threads.specs.declared.leading.Contender.{Contender}
 use Rattle.tso_threads.specs.declared.crew.Worker.{Worker}
 use Rattle.tso_threads.specs.declared.crew.Worker.TheVariants.{Ticks, Draws}
 
@@ -37,3 +38,11 @@ HasDriver b = 1 ≤ (setup_of b).drivers
 -- a count has no items
 abbrev pub no_items : {T : Type 0} → T → List (ℕ × ℕ)
 no_items count = []
+
+-- the driver comes from this board, and has room for each of its campaigns
+abbrev pub IsContenderOf : Board → Contender → Type 0
+IsContenderOf b c = IsDriverOf c.driver b × (c.times ≤ spare_of c.driver)
+
+-- the driver comes from this board
+abbrev pub HasContended : Board → Contender → Type 0
+HasContended b c = IsDriverOf c.driver b

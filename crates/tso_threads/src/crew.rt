@@ -26,6 +26,10 @@ pub struct Drawer {
     pub pass: Pass,
     pub times: u64,
     pub count: u64,
+    /// How often it drew.
+    pub drawn: u64,
+    /// Its batches, where it keeps them.
+    pub keeps: bool,
     pub got: Vec<Batch>,
 }
 
@@ -82,17 +86,20 @@ impl Drawer {
         requires driver { HasDriver shared.now.board }
         ensures drawer { IsDrawerOf self.new shared.now.board }
     {
-        if self.pass.reserve(1).is_err() || self.got.reserve(1).is_err() {
+        if self.pass.reserve(1).is_err() {
             return false;
         }
         match take(&mut self.pass, &shared.board, 1, self.count) {
-            Ok(batch) => self.got.push_reserved(batch),
+            Ok(batch) => {
+                self.drawn = self.drawn.saturating_add(1);
+                !self.keeps || self.got.push(batch).is_ok()
+            }
             Err(_) => {
                 shared.ask();
                 thread::yield_now();
+                true
             }
         }
-        true
     }
 
     /// Draws until all is drawn.
@@ -101,8 +108,9 @@ impl Drawer {
         requires driver { HasDriver shared.now.board }
         ensures drawer { IsDrawerOf self.new shared.now.board }
     {
+        let has_room = self.pass.reserve(self.times as usize).is_ok();
         for _ in rt.forever() {
-            if self.got.len() as u64 >= self.times || !self.draw(shared) {
+            if !has_room || self.drawn >= self.times || !self.draw(shared) {
                 break;
             }
         }
@@ -138,13 +146,14 @@ pub fn run_all<R: Threads + Wait + Sync>(rt: &R, shared: &Shared, workers: &mut 
     thread::for_each_mut(rt, workers, threads, &work);
 }
 
-/// A new board of one driver, which leads, and of so many clients, with a worker for each.
+/// A new board of one driver, which leads, and of so many clients, with a worker for each. In a test the
+/// driver is eager, and the clients keep their batches.
 pub fn start(
     alloc: Global,
     clients: u8,
     times: u64,
     count: u64,
-    eager: bool,
+    tested: bool,
 ) -> Result<(Shared, Vec<Worker>), NoMemory>
     requires clients { (0 < clients) × (clients ≤ 64) }
     requires count { (0 < count) × (count < 262144) }
@@ -159,8 +168,8 @@ pub fn start(
         ..
     } = open(alloc, 1, clients, cell)?;
     let mut workers = Vec::new(alloc);
-    add_drawers(alloc, &board, &mut workers, passes, times, count)?;
-    add_tickers(&board, &mut workers, seats, eager)?;
+    add_drawers(alloc, &board, &mut workers, passes, times, count, tested)?;
+    add_tickers(&board, &mut workers, seats, tested)?;
     let shared = Shared {
         board,
         drawing: AtomicU64::new(clients as u64),
@@ -177,6 +186,7 @@ fn add_drawers(
     passes: Vec<Pass>,
     times: u64,
     count: u64,
+    keeps: bool,
 ) -> Result<(), NoMemory>
     requires passes { All (IsClientOf _board.now) passes.items }
     requires workers { All (IsWorkerOf _board.now) workers.old.items }
@@ -189,6 +199,8 @@ fn add_drawers(
             pass,
             times,
             count,
+            drawn: 0,
+            keeps,
             got,
         }))?;
     }

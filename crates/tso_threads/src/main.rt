@@ -3,6 +3,7 @@
 
 mod adding;
 mod crew;
+mod leading;
 mod taking;
 #[cfg(test)]
 mod tests;
@@ -31,6 +32,7 @@ fn done<R: Threads + Wait + Sync + AllocGlobal>(
     match what {
         "takes" => taking::takes(rt, rt.alloc(), threads, times).ok(),
         "adds" => adding::adds(rt, rt.alloc(), threads, times),
+        "leads" if threads == 2 => leading::leads(rt, rt.alloc(), times).ok(),
         "turns" if threads == 1 || threads == 2 || threads == 4 => {
             turning::turns(rt, rt.alloc(), threads, times).ok()
         }
@@ -54,6 +56,6 @@ fn asked<R: Threads + Wait + Sync + AllocGlobal + Env>(rt: &R) -> Option<u64> {
 fn main(rt: HostRuntime) -> io::Result<()> {
     match asked(&rt) {
         Some(count) => println!(rt; "{count}"),
-        None => println!(rt; "usage: tso_threads takes | adds | turns THREADS TIMES"),
+        None => println!(rt; "usage: tso_threads takes | adds | turns | leads THREADS TIMES"),
     }
 }

@@ -22,7 +22,7 @@ pub fn takes<R: Threads + Wait + Sync>(
     let mut drawn = 0u64;
     for worker in &workers {
         if let Worker::Draws(drawer) = worker {
-            drawn = drawn.saturating_add(drawer.got.len() as u64);
+            drawn = drawn.saturating_add(drawer.drawn);
         }
     }
     Ok(drawn)

@@ -1,6 +1,7 @@
-// Clients that draw at once, from a driver that ticks meanwhile.
+// Clients that draw at once, from a driver that ticks meanwhile, and drivers that campaign at once.
 use crate::crew::{Worker, run_all, start};
-use pd_types::Batch;
+use crate::leading::contend;
+use pd_types::{Batch, Window};
 use std::process::Abort;
 use std::sync::Wait;
 use std::test::Fail;
@@ -65,4 +66,33 @@ fn two_clients_draw_a_million_timestamps(rt: HostRuntime) -> Result<(), Fail> {
 #[test]
 fn four_clients_draw_a_million_timestamps(rt: HostRuntime) -> Result<(), Fail> {
     draw_apart(&rt, 4, 2_500)
+}
+
+// Whether each window is of a later term than the one before it, and doesn't begin before its end.
+fn follow(windows: &[Window]) -> bool {
+    let mut term = 0;
+    let mut end = 0;
+    for window in windows {
+        if window.term <= term || window.lo < end || window.hi <= window.lo {
+            return false;
+        }
+        term = window.term;
+        end = window.hi;
+    }
+    true
+}
+
+// Two drivers campaign 1,000 times each against the other. What they won are windows that follow one
+// another.
+#[test]
+fn drivers_that_contend_win_windows_apart(rt: HostRuntime) -> Result<(), Fail> {
+    let contenders = contend(&rt, rt.alloc(), 1000)?;
+    let mut all = Vec::new(rt.alloc());
+    for contender in &contenders {
+        assert!(rt; contender.made == 1000 && follow(&contender.won));
+        all.extend_from_slice(&contender.won)?;
+    }
+    all.sort_by_key(|window| window.term)?;
+    assert!(rt; contenders.len() == 2 && !all.is_empty() && follow(&all));
+    Ok(())
 }
