@@ -101,8 +101,8 @@ module _ (d n : ℕ) (v : View) where
             driver = refl;
             term = refl;
             above = record {
-              by_term = dite (ℕ_discrete v.seen.term (t.word % 262144)) (λ e. inr (e, omega (arith, z.unseen.1))) (λ ne. inl (omega (arith, ne, z.unseen.0)));
-              by_number = omega (arith, z.unseen.1);
+              term = omega (arith, z.unseen.0);
+              last = omega (arith, z.unseen.1);
             };
           },
         );

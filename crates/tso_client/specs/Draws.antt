@@ -2,12 +2,12 @@
 use Rattle.std.specs.Prelude.{◌≡◌, ◌≢◌, ℕ, ◌/◌, ◌%◌, ◌<◌, ◌≤◌, ◌⊎◌, List, [], ◌∷◌, ◌++◌, Result, Ok, Err, true}
 use Rattle.pd_types.specs.declared.oracle.Batch.{Batch}
 use Rattle.pd_types.specs.declared.oracle.Seen.{Seen}
-use Rattle.pd_types.specs.Batch.{first_of}
 use Rattle.tso_model.specs.declared.entries.Grant.{Grant}
 use Rattle.tso_model.specs.declared.entries.Refusal.{Refusal}
 use Rattle.tso_model.specs.declared.view.View.{View}
 use Rattle.tso_model.specs.Words.{passes}
 use Rattle.tso_model.specs.History.{added_by}
+use Rattle.tso_model.specs.OneHistory.{IsAbove}
 use Rattle.tso_client.specs.declared.draw.DrawFault.{DrawFault}
 use Rattle.tso_client.specs.declared.draw.DrawFault.TheVariants.{NotLeader, Stale, Again}
 
@@ -50,11 +50,6 @@ Adds d n (Ok b) old new = AddsCount d n old new
 Adds d n (Err NotLeader) old new = AddsNothing old new
 Adds d n (Err (Stale term)) old new = AddsNothing old new
 Adds d n (Err (Again at hi m)) old new = AddsNothing old new ⊎ AddsCount d n old new
-
--- The batch is above all that was seen: it is of a later term, or of the seen one and behind the last seen timestamp; and whatever its term, its first timestamp is above the last seen one
-pub record IsAbove (seen : Seen) (b : Batch) : Type 0 where
-  pub by_term : (seen.term < b.term) ⊎ ((seen.term ≡ b.term) × (seen.last < first_of b))
-  pub by_number : seen.last < first_of b
 
 -- a batch of the count and the driver asked for, of the term of the limit that was found, above all that was seen
 pub record IsGranted (d n word : ℕ) (seen : Seen) (b : Batch) : Type 0 where

@@ -96,7 +96,7 @@ drawn d n (Ok b) old new some t = (
     some = (omega (arith, some, t.tells.2.count), t.tells.2.within);
     count = t.tells.2.count;
     driver = t.tells.2.driver;
-    above = record { term = omega (arith, t.tells.1, t.tells.2.term); last = t.tells.2.above.by_number };
+    above = t.tells.2.above;
     seen = t.seen;
   },
   inr t.added,
