@@ -1,18 +1,18 @@
-ghost use Rattle.std.specs.Prelude.{◌≡◌, ◌≢◌, ◌<◌, ◌≤◌, ℕ, List, [], ◌∷◌, length, Option, Some, None};
+ghost use Rattle.std.specs.Prelude.{◌≡◌, ◌≢◌, ◌+◌, ◌<◌, ◌≤◌, ℕ, List, [], ◌∷◌, length, Option, Some, None};
 ghost use Rattle.pd_types.specs.declared.region.RegionBeat.{RegionBeat};
 ghost use Rattle.pd_types.specs.declared.step.Step.{Step};
 ghost use Rattle.pd_types.specs.declared.step.Step.TheVariants as steps;
 ghost use Rattle.store_table.specs.declared.entry.StoreEntry.{StoreEntry};
 ghost use Rattle.store_limit.specs.declared.limits.LimitKind.TheVariants as kinds;
 ghost use Rattle.store_limit.specs.declared.limits.Limited.{Limited};
-ghost use Rattle.store_limit.specs.Limits.{StoreLimits, taken};
+ghost use Rattle.store_limit.specs.Limits.{StoreLimits, available_in, taken};
 ghost use Rattle.op_control.specs.declared.operator.NewOp.{NewOp};
 ghost use Rattle.op_control.specs.declared.operator.Operator.{Operator};
 ghost use Rattle.op_control.specs.declared.operator.OpState.TheVariants.{Created, Started};
 ghost use Rattle.op_control.specs.declared.table.AddFault.TheVariants as faults;
 ghost use Rattle.op_control.specs.declared.turn.Dispatch.TheVariants as dispatch;
 ghost use Rattle.op_control.specs.Table.{Table, active_at};
-ghost use Rattle.op_control.specs.Turn.{answer_of, turned};
+ghost use Rattle.op_control.specs.Turn.{answer_of, conf_changes, turned};
 ghost use Rattle.op_control.specs.Charging.{after_charges, first_refused};
 ghost use Rattle.op_control.specs.Adding.{added, refusal_of, with_new_id};
 
@@ -32,10 +32,13 @@ pub fn an_id_changes_no_refusal()
         refusal_of table (with_new_id op id) kept limits now ≡ refusal_of table op kept limits now }
 {}
 
-/// Of several reasons the first is named, with the numbers of what stands in the way: another epoch,
+/// Of several reasons the first is named, with the numbers of what stands in the way: a region that
+/// isn't held, another epoch,
 /// then an operator of at least this priority, then a store's limit, then 1,024 operators, which
 /// don't matter to an operator that replaces one.
 pub fn the_first_refusal_is_named()
+    ensures no_region { (table : Table) (op : NewOp) (limits : StoreLimits) (now : ℕ) →
+        refusal_of table op None limits now ≡ Some faults.NoRegion }
     ensures moved { (table : Table) (op : NewOp) (beat : RegionBeat) (limits : StoreLimits)
         (now : ℕ) → op.epoch ≢ beat.region.epoch →
         refusal_of table op (Some beat) limits now ≡ Some (faults.EpochMoved beat.region.epoch) }
@@ -79,8 +82,22 @@ pub fn the_first_send_is_the_start()
         op.state ≡ Started → (turned op beat stores now).started ≡ op.started }
 {}
 
+/// Passed steps raise conf_ver by one each, but for a transfer of the lead.
+pub fn passed_steps_raise_conf_ver()
+    ensures none { conf_changes [] ≡ 0 }
+    ensures add { (peer store : ℕ) (more : List Step) →
+        conf_changes (steps.AddLearner peer store ∷ more) ≡ conf_changes more + 1 }
+    ensures promote { (peer store : ℕ) (more : List Step) →
+        conf_changes (steps.PromoteLearner peer store ∷ more) ≡ conf_changes more + 1 }
+    ensures remove { (peer store : ℕ) (more : List Step) →
+        conf_changes (steps.RemovePeer peer store ∷ more) ≡ conf_changes more + 1 }
+    ensures transfer { (peer store : ℕ) (more : List Step) →
+        conf_changes (steps.TransferLeader peer store ∷ more) ≡ conf_changes more }
+{}
+
 /// A new peer is charged to its store's limit for new peers, one that leaves to the other, and no
-/// other step is charged.
+/// other step is charged. Fewer than 60,000 units refuse a charge, and a step is tested after the
+/// charges of the steps before it.
 pub fn new_and_leaving_peers_are_charged()
     ensures add { (limits : StoreLimits) (peer store now : ℕ) →
         after_charges (steps.AddLearner peer store ∷ []) limits now
@@ -92,4 +109,16 @@ pub fn new_and_leaving_peers_are_charged()
         after_charges (steps.PromoteLearner peer store ∷ []) limits now ≡ limits }
     ensures transfer { (limits : StoreLimits) (peer store now : ℕ) →
         after_charges (steps.TransferLeader peer store ∷ []) limits now ≡ limits }
+    ensures refused { (limits : StoreLimits) (peer store now : ℕ) (more : List Step) →
+        available_in limits store kinds.AddPeer now < 60000 →
+        first_refused (steps.AddLearner peer store ∷ more) limits now
+        ≡ Some (record { available = available_in limits store kinds.AddPeer now; needed = 60000 }) }
+    ensures turn { (limits : StoreLimits) (peer store now : ℕ) (more : List Step) →
+        60000 ≤ available_in limits store kinds.AddPeer now →
+        first_refused (steps.AddLearner peer store ∷ more) limits now
+        ≡ first_refused more (taken limits store kinds.AddPeer now) now }
+    ensures leaves { (limits : StoreLimits) (peer store now : ℕ) (more : List Step) →
+        60000 ≤ available_in limits store kinds.RemovePeer now →
+        first_refused (steps.RemovePeer peer store ∷ more) limits now
+        ≡ first_refused more (taken limits store kinds.RemovePeer now) now }
 {}

@@ -11,8 +11,8 @@ mod turn;
 
 pub use laws::{
     an_id_changes_no_refusal, at_most_1024_regions_have_an_operator,
-    new_and_leaving_peers_are_charged, the_first_refusal_is_named, the_first_send_is_the_start,
-    the_numbers,
+    new_and_leaving_peers_are_charged, passed_steps_raise_conf_ver, the_first_refusal_is_named,
+    the_first_send_is_the_start, the_numbers,
 };
 pub use operator::{EXPIRED_MS, NewOp, OpState, Operator, TIMEOUT_MS};
 pub use table::{Absent, AddFault, MOST_OPERATORS, Operators};

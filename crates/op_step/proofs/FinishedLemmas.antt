@@ -8,6 +8,7 @@ use Rattle.pd_types.specs.declared.region.Peer.{Peer}
 use Rattle.pd_types.specs.declared.region.RegionBeat.{RegionBeat}
 use Rattle.pd_types.specs.declared.step.Step.TheVariants as steps
 use Rattle.store_table.specs.declared.entry.StoreEntry.{StoreEntry}
+use Rattle.pd_types.specs.Roles.{is_learner}
 use Rattle.store_table.specs.Entries.{is_live}
 use Rattle.op_step.specs.Peers.{has_id, has_peer, has_store, is_down, is_peer, is_pending, is_target}
 use Rattle.op_step.specs.Votes.{is_voter}
@@ -131,3 +132,15 @@ leader_is_fit id store now beat stores safe = by (Any-from_list_any (λ peer. is
             whole = denied (is_pending beat p.id) target.1;
           },
         )
+
+-- a learner that is promoted is on a live store and isn't pending
+pub learner_is_fit : (id store now : ℕ) (beat : RegionBeat) (stores : List StoreEntry) → IsSafe (steps.PromoteLearner id store) beat stores now → (is_live store now stores ≡ true) × (is_pending beat id ≡ false)
+learner_is_fit id store now beat stores safe = by (Any-from_list_any (λ peer. is_peer id store peer && is_learner peer.role && is_live peer.store now stores && not (is_pending beat peer.id)) beat.region.peers safe.target)
+  where
+    by : Any (λ (peer : Peer). (is_peer id store peer && is_learner peer.role && is_live peer.store now stores && not (is_pending beat peer.id)) ≡ true) beat.region.peers → (is_live store now stores ≡ true) × (is_pending beat id ≡ false)
+    by (k, p, low, at, is) =
+        let first = both (is_peer id store p && is_learner p.role && is_live p.store now stores) (not (is_pending beat p.id)) is in
+        let second = both (is_peer id store p && is_learner p.role) (is_live p.store now stores) first.0 in
+        let third = both (is_peer id store p) (is_learner p.role) second.0 in
+        let fourth = both (p.id == id) (p.store == store) third.0 in
+        (subst (λ s. is_live s now stores ≡ true) (equal p.store store fourth.1) second.1, subst (λ i. is_pending beat i ≡ false) (equal p.id id fourth.0) (denied (is_pending beat p.id) first.1))

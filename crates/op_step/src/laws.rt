@@ -1,4 +1,4 @@
-ghost use Rattle.std.specs.Prelude.{◌≡◌, ◌≢◌, ◌+◌, ◌*◌, ◌<◌, ℕ, List, Some, Ok, Err, true, false, All, AllPairs, Any};
+ghost use Rattle.std.specs.Prelude.{◌≡◌, ◌≢◌, ◌+◌, ◌*◌, ◌<◌, ℕ, List, None, Some, Ok, Err, true, false, All, AllPairs, Any};
 ghost use Rattle.pd_types.specs.declared.region.Peer.{Peer};
 ghost use Rattle.pd_types.specs.declared.region.RegionBeat.{RegionBeat};
 ghost use Rattle.pd_types.specs.declared.region.Role.TheVariants.{Voter};
@@ -9,12 +9,12 @@ ghost use Rattle.store_table.specs.Entries.{is_live, is_usable};
 ghost use Rattle.op_step.specs.declared.wishes.Wish.TheVariants as wish;
 ghost use Rattle.op_step.specs.declared.wishes.BuildFault.TheVariants as faults;
 ghost use Rattle.op_step.specs.Carried.{HasLeft, HasMoved, HasNew, IsLedFrom, IsThereFirst, MayTake, left_by};
-ghost use Rattle.op_step.specs.Wishes.{is_unknown, may_lead, plan_of};
-ghost use Rattle.op_step.specs.After.{after, conf_change, peers_after};
+ghost use Rattle.op_step.specs.Wishes.{is_unknown, may_lead, next_leader, plan_of};
+ghost use Rattle.op_step.specs.After.{after, conf_change, leader_after, peers_after};
 ghost use Rattle.op_step.specs.Safe.{is_right, IsFitToLead, IsSafe};
 ghost use Rattle.op_step.specs.Finished.{is_finished};
-ghost use Rattle.op_step.specs.Peers.{has_peer, has_store, is_down, is_pending, is_target, peer_on};
-ghost use Rattle.op_step.specs.Votes.{is_voter, live_of, voters_of, HasMajority};
+ghost use Rattle.op_step.specs.Peers.{has_id, has_peer, has_store, is_down, is_pending, is_target, peer_on};
+ghost use Rattle.op_step.specs.Votes.{is_live_voter, is_voter, live_of, voters_of, HasMajority};
 
 /// Two majorities of a region's voters are more than the voters, so that they have one in common;
 /// and one voter more than the half that is left out is enough.
@@ -25,6 +25,38 @@ pub fn two_majorities_meet()
     ensures enough { (beat : RegionBeat) (stores : List StoreEntry) (now half : ℕ) →
         voters_of beat ≡ 2 * half + 1 → live_of beat stores now ≡ half + 1 →
         HasMajority beat stores now }
+{}
+
+/// A live voter is a voter on a live store that isn't down; one that lacks parts of the log is live.
+pub fn a_live_voter_is_on_a_live_store()
+    ensures live { (beat : RegionBeat) (stores : List StoreEntry) (now : ℕ) (peer : Peer) →
+        peer.role ≡ Voter → is_live peer.store now stores ≡ true →
+        is_down beat peer.id ≡ false → is_live_voter beat stores now peer ≡ true }
+    ensures learner { (beat : RegionBeat) (stores : List StoreEntry) (now : ℕ) (peer : Peer) →
+        is_voter peer ≡ false → is_live_voter beat stores now peer ≡ false }
+    ensures silent { (beat : RegionBeat) (stores : List StoreEntry) (now : ℕ) (peer : Peer) →
+        is_live peer.store now stores ≡ false → is_live_voter beat stores now peer ≡ false }
+    ensures down { (beat : RegionBeat) (stores : List StoreEntry) (now : ℕ) (peer : Peer) →
+        is_down beat peer.id ≡ true → is_live_voter beat stores now peer ≡ false }
+{}
+
+/// A step changes its own peer and the leader alone: a peer is added once, the lead moves to a peer
+/// that is there, and down and pending peers, epoch and range stay.
+pub fn a_step_changes_its_peer_alone()
+    ensures known { (id store : ℕ) (beat : RegionBeat) → has_id id beat ≡ true →
+        peers_after (steps.AddLearner id store) beat.region.peers ≡ beat.region.peers }
+    ensures taken { (id store : ℕ) (beat : RegionBeat) → has_store store beat ≡ true →
+        peers_after (steps.AddLearner id store) beat.region.peers ≡ beat.region.peers }
+    ensures stays { (id store : ℕ) (beat : RegionBeat) → has_peer id store beat ≡ false →
+        leader_after (steps.TransferLeader id store) beat ≡ beat.leader }
+    ensures leader { (id store : ℕ) (beat : RegionBeat) →
+        leader_after (steps.RemovePeer id store) beat ≡ beat.leader }
+    ensures down { (step : Step) (beat : RegionBeat) → (after step beat).down ≡ beat.down }
+    ensures pending { (step : Step) (beat : RegionBeat) → (after step beat).pending ≡ beat.pending }
+    ensures epoch { (step : Step) (beat : RegionBeat) →
+        (after step beat).region.epoch ≡ beat.region.epoch }
+    ensures range { (step : Step) (beat : RegionBeat) →
+        (after step beat).region.start ≡ beat.region.start }
 {}
 
 /// conf_ver counts each change of a region's peers, and a change of its leader is none.
@@ -111,13 +143,20 @@ pub fn a_step_that_is_carried_out_is_finished()
         is_finished (steps.RemovePeer id store) beat ≡ false }
 {}
 
-/// The leader isn't removed, and the next one is a voter on a live store, neither down nor pending.
+/// The leader isn't removed, and the next one is a voter on a live store, neither down nor pending. A
+/// peer that isn't there isn't removed, and none that lacks parts of the log or whose store is silent
+/// gets a vote.
 pub fn a_safe_step_keeps_a_leader()
     ensures stays { (id store now : ℕ) (beat : RegionBeat) (stores : List StoreEntry) →
         IsSafe (steps.RemovePeer id store) beat stores now → beat.leader ≢ id }
     ensures fit { (id store now : ℕ) (beat : RegionBeat) (stores : List StoreEntry) →
         IsSafe (steps.TransferLeader id store) beat stores now →
         Any (IsFitToLead id store beat stores now) beat.region.peers }
+    ensures absent { (id store now : ℕ) (beat : RegionBeat) (stores : List StoreEntry) →
+        has_peer id store beat ≡ false → is_right (steps.RemovePeer id store) beat stores now ≡ false }
+    ensures votes { (id store now : ℕ) (beat : RegionBeat) (stores : List StoreEntry) →
+        IsSafe (steps.PromoteLearner id store) beat stores now →
+        (is_live store now stores ≡ true) × (is_pending beat id ≡ false) }
 {}
 
 /// Of several faults the first is named: a store that isn't known, then one that isn't usable, then
@@ -144,6 +183,17 @@ pub fn the_first_fault_is_named()
     ensures leads { (store now : ℕ) (beat : RegionBeat) (stores : List StoreEntry) (peer : Peer) →
         is_unknown store stores ≡ false → peer_on store beat ≡ Some peer → peer.id ≡ beat.leader →
         plan_of (wish.TransferLeader store) beat stores now ≡ Err faults.IsLeader }
+    ensures no_voter { (store now : ℕ) (beat : RegionBeat) (stores : List StoreEntry) (peer : Peer) →
+        is_unknown store stores ≡ false → peer_on store beat ≡ Some peer → peer.id ≢ beat.leader →
+        is_voter peer ≡ false →
+        plan_of (wish.TransferLeader store) beat stores now ≡ Err faults.NotVoter }
+    ensures no_peer { (store now : ℕ) (beat : RegionBeat) (stores : List StoreEntry) →
+        is_unknown store stores ≡ false → peer_on store beat ≡ None →
+        plan_of (wish.RemovePeer store) beat stores now ≡ Err faults.NoPeer }
+    ensures no_target { (store now : ℕ) (beat : RegionBeat) (stores : List StoreEntry) (peer : Peer) →
+        is_unknown store stores ≡ false → peer_on store beat ≡ Some peer → peer.id ≡ beat.leader →
+        next_leader beat stores now ≡ None →
+        plan_of (wish.RemovePeer store) beat stores now ≡ Err faults.NoTarget }
 {}
 
 /// In a move the new peer is there, in the moved one's role, before the moved one goes.

@@ -1,5 +1,5 @@
 -- One more piece of what is read or written.
-use Rattle.std.proofs.Common.{◌-◌, arith, length-drop, take-add, ◌≡◌, ℕ, ◌+◌, ◌≤◌, List, length, take, drop, sym, subst}
+use Rattle.std.proofs.Common.{◌-◌, arith, length-drop, take-add, ◌≡◌, ℕ, ◌+◌, ◌≤◌, List, ◌++◌, Some, length, take, drop, sym, ap, subst, ◌∙◌, append_assoc, take-append-drop}
 use Rattle.std.proofs.lemmas.List.{take_all}
 use Rattle.std.proofs.KnownBytes.{Appends-nil, Appends-trans, Appends-kept}
 use Rattle.std.specs.Prelude.{Option}
@@ -20,3 +20,8 @@ appends_all a b text at so_far end = subst (Appends a b) (take_all at text end) 
 
 pub appends_kept : (a b c : Option (List ℕ)) (text : List ℕ) (at : ℕ) → Appends a b (take at text) → Keeps b c → Appends a c (take at text)
 appends_kept a b c text at so_far kept = Appends-kept a b c (take at text) so_far kept
+
+-- a front of the text and its rest are the whole text
+pub front_and_rest : (old new text : List ℕ) (n : ℕ) → Appends (Some old) (Some new) (take n text) → old ++ text ≡ new ++ drop n text
+front_and_rest old new text n written =
+    ap (λ bytes. old ++ bytes) (sym (take-append-drop n text)) ∙ sym (append_assoc old (take n text) (drop n text)) ∙ ap (λ bytes. bytes ++ drop n text) (sym written)

@@ -15,6 +15,6 @@ pub use input::{ReadRefusal, read_all};
 pub use label::{
     addresses_and_labels_have_their_bounds, labels, labels_are_read_as_they_are_written,
 };
-pub use output::put_all;
+pub use output::{put_all, what_is_written_is_the_front};
 pub use plain::{address, is_plain};
 pub use words::{cut, digits, number, spells_its_number};

@@ -1,4 +1,4 @@
-ghost use Rattle.std.specs.Prelude.{◌≡◌, IsErrOf, OnOk, OnErr};
+ghost use Rattle.std.specs.Prelude.{◌≡◌, ◌++◌, ℕ, List, Some, IsErrOf, OnOk, OnErr};
 ghost use Rattle.std.specs.Io.KnownBytes.{Appends};
 ghost use Rattle.pd_io.specs.Faults.{HasWriteCause};
 ghost use Rattle.pd_lines.specs.Output.{WritesPrefix};
@@ -22,3 +22,9 @@ pub fn put_all<K: Sink>(sink: &mut K, text: &[u8]) -> Result<(), PutFault>
     }
     Ok(())
 }
+
+/// What was written of a text is its front: with the rest of the text it is the whole.
+pub fn what_is_written_is_the_front()
+    ensures { (old new text : List ℕ) → WritesPrefix (Some old) (Some new) text →
+        (rest : List ℕ) × (old ++ text ≡ new ++ rest) }
+{}

@@ -4,3 +4,4 @@ pub mod Places
 pub mod Ranged
 pub mod KnownLemmas
 pub mod Moments
+pub mod HeardLemmas

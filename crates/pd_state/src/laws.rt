@@ -1,15 +1,20 @@
-ghost use Rattle.std.specs.Prelude.{◌≡◌, ◌≢◌, ◌≤◌, ◌++◌, ◌∷◌, ℕ, List, [], Some, None, All, reverse};
+ghost use Rattle.std.specs.Prelude.{◌≡◌, ◌≢◌, ◌≤◌, ◌++◌, ◌∷◌, ℕ, List, [], Option, Some, None, All, length, reverse};
 ghost use Rattle.std.specs.List.{Any};
 ghost use Rattle.pd_types.specs.declared.oracle.Actor.{Actor};
 ghost use Rattle.pd_types.specs.declared.region.RegionBeat.{RegionBeat};
 ghost use Rattle.pd_types.specs.declared.request.Request.TheVariants as ask;
 ghost use Rattle.pd_types.specs.declared.store.Label.{Label};
 ghost use Rattle.pd_types.specs.declared.store.StoreState.TheVariants as states;
+ghost use Rattle.pd_types.specs.declared.beat.BeatFault.{BeatFault};
+ghost use Rattle.pd_types.specs.declared.region.Epoch.{Epoch};
+ghost use Rattle.heartbeat.specs.declared.intake.Intake.TheVariants as intakes;
 ghost use Rattle.region_tree.specs.Standing.{IsTable};
+ghost use Rattle.store_table.specs.Standing.{later};
 ghost use Rattle.pd_state.specs.Known.{AreKnown};
-ghost use Rattle.pd_state.specs.Legal.{alive_reply, first_reply, hello_reply, IsLegal, IsLegalAfter};
+ghost use Rattle.pd_state.specs.Legal.{alive_reply, beat_reply, first_reply, hello_reply, IsLegal, IsLegalAfter};
 ghost use Rattle.pd_state.specs.Since.{since};
-ghost use Rattle.pd_state.specs.State.{beats_of, clock_of, moment_of, part_after, part_of};
+ghost use Rattle.pd_state.specs.State.{began_of, beats_of, clock_of, heartbeat_by, moment_of, part_after, part_of};
+ghost use Rattle.pd_state.specs.declared.reply.Reply.{Reply};
 ghost use Rattle.pd_state.specs.declared.reply.Reply.TheVariants as replies;
 ghost use Rattle.pd_state.specs.declared.entry.Entry.{Entry};
 ghost use Rattle.pd_state.specs.declared.part.Part.{Part};
@@ -39,6 +44,12 @@ pub fn the_clock_is_the_greatest_moment()
         All (λ entry. moment_of entry.request ≤ clock_of entries) entries }
     ensures one { (entries : List Entry) → entries ≢ [] →
         Any (λ entry. moment_of entry.request ≡ clock_of entries) entries }
+    ensures term { (term moment : ℕ) → moment_of (ask.Term term moment) ≡ moment }
+    ensures hello { (store moment : ℕ) (address : List ℕ) (labels : List Label) →
+        moment_of (ask.Hello store moment address labels) ≡ moment }
+    ensures alive { (store moment : ℕ) → moment_of (ask.Alive store moment) ≡ moment }
+    ensures beat { (store moment : ℕ) (beat : RegionBeat) →
+        moment_of (ask.Beat store moment beat) ≡ moment }
 {}
 
 /// A Term that is accepted begins anew, at its own moment; after a Retire there is no term.
@@ -58,6 +69,9 @@ pub fn who_is_heard()
     ensures tombstone { (known : ℕ) →
         hello_reply (Some states.Tombstone) known ≡ replies.Tombstone }
     ensures silent { alive_reply (Some states.Tombstone) ≡ replies.Tombstone }
+    ensures known { (known : ℕ) → hello_reply (Some states.Up) known ≡ replies.StorePut }
+    ensures up { alive_reply (Some states.Up) ≡ replies.Alive }
+    ensures unknown { alive_reply None ≡ replies.UnknownStore }
     ensures last { hello_reply None 255 ≡ replies.StorePut }
     ensures limit { hello_reply None 256 ≡ replies.Limit }
 {}
@@ -76,4 +90,38 @@ pub fn a_term_tells_no_stores_and_one_rule()
     ensures beat { (store moment : ℕ) (beat : RegionBeat) →
         first_reply None (ask.Beat store moment beat) ≡ replies.NotLeading }
     ensures retire { first_reply None ask.Retire ≡ replies.NotLeading }
+    ensures retires { (part : Part) → first_reply (Some part) ask.Retire ≡ replies.Retired }
+{}
+
+/// A region heartbeat is answered as it was taken in; an accepted one by how many others it removed.
+pub fn a_heartbeat_is_answered_as_taken()
+    ensures bad { (fault : BeatFault) → beat_reply (intakes.Bad fault) ≡ replies.Bad fault }
+    ensures stale { (kept : Epoch) → beat_reply (intakes.Stale kept) ≡ replies.Stale kept }
+    ensures full { beat_reply intakes.Full ≡ replies.Full }
+    ensures accepted { (removed : List ℕ) →
+        beat_reply (intakes.Accepted removed) ≡ replies.Accepted (length removed) }
+{}
+
+/// A store is heard by its own accepted hellos and alives, of which the greatest moment counts, and by
+/// nothing else; its silence is counted from the beginning of the term.
+pub fn a_store_is_heard_by_hello_and_alive()
+    ensures hello { (store moment : ℕ) (address : List ℕ) (labels : List Label) (before : Option ℕ) →
+        heartbeat_by (ask.Hello store moment address labels) replies.StorePut store before
+        ≡ Some (later before moment) }
+    ensures alive { (store moment : ℕ) (before : Option ℕ) →
+        heartbeat_by (ask.Alive store moment) replies.Alive store before ≡ Some (later before moment) }
+    ensures refused { (store at moment : ℕ) (reply : Reply) (before : Option ℕ) →
+        reply ≢ replies.Alive → heartbeat_by (ask.Alive at moment) reply store before ≡ before }
+    ensures other { (store at moment : ℕ) (before : Option ℕ) → at ≢ store →
+        heartbeat_by (ask.Alive at moment) replies.Alive store before ≡ before }
+    ensures unput { (store at moment : ℕ) (address : List ℕ) (labels : List Label) (reply : Reply)
+        (before : Option ℕ) → reply ≢ replies.StorePut →
+        heartbeat_by (ask.Hello at moment address labels) reply store before ≡ before }
+    ensures greets { (store at moment : ℕ) (address : List ℕ) (labels : List Label)
+        (before : Option ℕ) → at ≢ store →
+        heartbeat_by (ask.Hello at moment address labels) replies.StorePut store before ≡ before }
+    ensures beat { (store at moment : ℕ) (beat : RegionBeat) (reply : Reply) (before : Option ℕ) →
+        heartbeat_by (ask.Beat at moment beat) reply store before ≡ before }
+    ensures began { (entries : List Entry) →
+        All (λ store. store.began ≡ began_of entries) (part_of entries).stores }
 {}

@@ -1,9 +1,12 @@
 -- All constraints of a rule are asked of a store.
-use Rattle.std.proofs.Common.{refl, ◌≡◌, zero, suc, Bool, true, false, ◌&&◌, List, [], ◌∷◌, All, Contains, ap, ◌∙◌, arith}
+use Rattle.std.proofs.Common.{refl, ◌≡◌, ◌≢◌, ℕ, zero, suc, Bool, true, false, ◌&&◌, nat_eq, List, [], ◌∷◌, All, Contains, ap, sym, ◌∙◌, arith}
 use Rattle.std.proofs.lemmas.List.Elements.{All-head, All-tail}
 use Rattle.pd_types.specs.declared.store.Label.{Label}
 use Rattle.pd_types.specs.declared.rule.Constraint.{Constraint}
-use Rattle.rule_fit.specs.Suits.{satisfies, satisfies_all}
+use Rattle.std.specs.Cmp.Lexicographic.{pointwise, bytes_decides, same_text}
+use Rattle.store_table.specs.declared.entry.StoreEntry.{StoreEntry}
+use Rattle.rule_fit.specs.Isolation.{differ_in, score_beside}
+use Rattle.rule_fit.specs.Suits.{satisfies, satisfies_all, value_of}
 
 and_false : (a b : Bool) → b ≡ false → (a && b) ≡ false
 and_false true b h = h
@@ -18,3 +21,20 @@ pub all_pass : (labels : List Label) (list : List Constraint) → All (λ (one :
 all_pass labels [] h = refl
 all_pass labels (x ∷ xs) h =
     rw (All-head (λ (one : Constraint). satisfies labels one ≡ true) x xs h) (all_pass labels xs (All-tail (λ (one : Constraint). satisfies labels one ≡ true) x xs h))
+
+-- the first label with a key counts
+pub value_first : (label : Label) (labels : List Label) → value_of label.key (label ∷ labels) ≡ label.value
+value_first label labels = rw ((bytes_decides label.key label.key).1 refl) refl
+
+pub value_behind : (key : List ℕ) (label : Label) (labels : List Label) → label.key ≢ key → value_of key (label ∷ labels) ≡ value_of key labels
+value_behind key label labels other = by (pointwise nat_eq label.key key) refl
+  where
+    by : (same : Bool) → pointwise nat_eq label.key key ≡ same → value_of key (label ∷ labels) ≡ value_of key labels
+    by true is = absurd (other (same_text label.key key (sym is)))
+    by false is = rw is refl
+
+-- stores that differ in no label are worth nothing
+pub score_none : (stores : List StoreEntry) (one other : ℕ) (labels : List (List ℕ)) → All (λ (label : List ℕ). differ_in stores one other label ≡ false) labels → score_beside stores one other labels ≡ 0
+score_none stores one other [] same = refl
+score_none stores one other (label ∷ labels) same =
+    rw (All-head (λ (label : List ℕ). differ_in stores one other label ≡ false) label labels same) (score_none stores one other labels (All-tail (λ (label : List ℕ). differ_in stores one other label ≡ false) label labels same))

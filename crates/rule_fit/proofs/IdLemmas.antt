@@ -1,7 +1,7 @@
 -- Sets of peers by their ids.
-use Rattle.std.proofs.Common.{ℕ, zero, suc, Bool, true, false, not, ◌≡◌, ◌≢◌, ◌+◌, ◌<◌, ◌≤◌, refl, ap, sym, ◌∙◌, List, [], ◌∷◌, ◌++◌, length, get_or, drop, Option, Some, None, arith, eqb, inl, inr}
+use Rattle.std.proofs.Common.{ℕ, zero, suc, Bool, true, false, not, ◌||◌, ◌≡◌, ◌≢◌, ◌+◌, ◌<◌, ◌≤◌, refl, ap, sym, ◌∙◌, List, [], ◌∷◌, ◌++◌, length, get_or, drop, Option, Some, None, arith, eqb, inl, inr}
 use Rattle.std.specs.List.{slice_get, list_any, list_all}
-use Rattle.std.proofs.lemmas.Bool.{cases_eq, cases_lt, eq-eqb, ne_eqb, or_right, and_parts, and_from, or_parts, eqb-false, not-true}
+use Rattle.std.proofs.lemmas.Bool.{cases_eq, cases_lt, eq-eqb, ne_eqb, or_right, and_parts, and_from, or_parts, eqb-false, eqb-true, not-true, true≢false}
 use Rattle.std.proofs.lemmas.Option.{slice_get-get_or}
 use Rattle.pd_types.specs.declared.region.Peer.{Peer}
 use Rattle.rule_fit.specs.Chosen.{listed}
@@ -97,6 +97,27 @@ test_apart (peer ∷ peers) told (suc i) (suc j) a b other at_i at_j =
     let parts = and_parts (not (is_peer peers peer.id)) (apart_test peers) told in
     test_apart peers parts.1 i j a b (λ same. other (ap suc same)) at_i at_j
 
+-- the peer that has an id
+found_peer : (peers : List Peer) (id : ℕ) → is_peer peers id ≡ true → (j : ℕ) × (b : Peer) × (slice_get peers j ≡ Some b) × (b.id ≡ id)
+found_peer [] id found = absurd (true≢false (sym found))
+found_peer (peer ∷ peers) id found = by (eqb peer.id id) refl (found_peer peers id)
+  where
+    by : (same : Bool) → eqb peer.id id ≡ same → (is_peer peers id ≡ true → (j : ℕ) × (b : Peer) × (slice_get peers j ≡ Some b) × (b.id ≡ id)) → (j : ℕ) × (b : Peer) × (slice_get (peer ∷ peers) j ≡ Some b) × (b.id ≡ id)
+    by true is behind = (0, peer, refl, eqb-true peer.id id is)
+    by false is behind =
+        let rest = behind (sym (ap (λ (t : Bool). t || is_peer peers id) is) ∙ found) in (suc rest.0, rest.1, rest.2, rest.3)
+
+-- the test passes where no two peers have one id
+pub apart_passes : (peers : List Peer) → AreApart peers → apart_test peers ≡ true
+apart_passes [] apart = refl
+apart_passes (peer ∷ peers) apart =
+    and_from (not (is_peer peers peer.id)) (apart_test peers) (by (is_peer peers peer.id) refl) (apart_passes peers (λ i j a b other at_i at_j. apart (suc i) (suc j) a b (λ same. other (omega (arith, same))) at_i at_j))
+  where
+    by : (known : Bool) → is_peer peers peer.id ≡ known → not (is_peer peers peer.id) ≡ true
+    by false is = ap not is
+    by true is =
+        let found = found_peer peers peer.id is in absurd (apart 0 (suc found.0) peer found.1 (λ same. omega (arith, same)) refl found.2 (sym found.3))
+
 gone : {X : Type 0} (xs : List X) (n : ℕ) → length xs ≤ n → drop n xs ≡ []
 gone [] zero low = refl
 gone [] (suc n) low = refl
@@ -106,3 +127,7 @@ gone (x ∷ xs) (suc n) low = gone xs n (omega arith)
 -- the test of what is left at the end
 pub apart_end : (peers : List Peer) (n : ℕ) → length peers ≤ n → apart_test (drop n peers) ≡ apart_test peers → AreApart peers
 apart_end peers n low same = test_apart peers (sym same ∙ ap apart_test (gone peers n low))
+
+-- the test fails where a peer has the id of one behind it
+pub apart_fails : (peers : List Peer) → false ≡ apart_test peers → AreApart peers → ⊥
+apart_fails peers fails apart = true≢false (sym (apart_passes peers apart) ∙ sym fails)

@@ -1,5 +1,5 @@
 -- What a certificate and a misfit number say of a fit.
-use Rattle.std.proofs.Common.{ℕ, zero, suc, Bool, ◌≡◌, ◌<◌, arith, refl, sym, ◌∙◌, List, [], ◌∷◌, length}
+use Rattle.std.proofs.Common.{ℕ, zero, suc, Bool, ◌≡◌, ◌<◌, arith, refl, sym, ◌∙◌, List, [], ◌∷◌, length, sum, ◌≤◌}
 use Rattle.std.specs.List.{count_by}
 use Rattle.rule_fit.specs.declared.answer.Certificate.{Certificate}
 use Rattle.rule_fit.specs.declared.answer.Certificate.TheVariants.{Totals, Peers}
@@ -72,3 +72,14 @@ fit_number suits peers counts n number fit =
     let total = fit_totals suits peers counts fit in
     let most = number.greatest.most fit.given fit.assigned in
     let every = fit.every in omega arith
+
+-- without peers the number is the sum of the counts, and without rules that of the peers
+pub number_alone : (suits : ℕ → ℕ → Bool) (counts : List ℕ) (n : ℕ) → IsMisfitNumber suits 0 counts n → n ≡ sum counts
+number_alone suits counts n number =
+    let missing = number.missing in
+    let few = placed_few suits 0 counts number.given number.greatest.assigned in omega arith
+
+pub number_free : (suits : ℕ → ℕ → Bool) (peers n : ℕ) → IsMisfitNumber suits peers [] n → n ≡ peers
+number_free suits peers n number =
+    let missing = number.missing in
+    let total : placed number.given ≤ 0 = placed_total suits peers [] number.given number.greatest.assigned in omega arith

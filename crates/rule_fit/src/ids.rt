@@ -1,4 +1,4 @@
-ghost use Rattle.std.specs.Prelude.{Bool, ◌≡◌, ◌<◌, ℕ, length, slice_index_or, map, filter, IfOk, IsTrue};
+ghost use Rattle.std.specs.Prelude.{Bool, ◌≡◌, ◌↔◌, ◌<◌, ℕ, length, slice_index_or, map, filter, IfOk, IsTrue};
 ghost use Rattle.pd_types.specs.declared.region.Peer.{Peer};
 ghost use Rattle.std.specs.List.{list_all};
 ghost use Rattle.rule_fit.specs.Chosen.{listed};
@@ -62,7 +62,7 @@ pub fn are_peers(peers: &[Peer], ids: &[u64]) -> bool
 /// Whether no two peers have one id, as `fit` asks.
 pub fn are_apart(peers: &[Peer]) -> bool
     ensures value { result ≡ apart_test peers.now }
-    ensures apart { IsTrue result → AreApart peers.now }
+    ensures apart { IsTrue result ↔ AreApart peers.now }
 {
     for (place, peer) in peers.iter().enumerate() {
         if is_peer(&peers[place + 1..], peer.id) {

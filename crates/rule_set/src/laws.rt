@@ -1,10 +1,12 @@
-ghost use Rattle.std.specs.Prelude.{◌≡◌, ◌≢◌, ◌↔◌, ◌⊎◌, ◌<◌, ℕ, List, [], true, false, Contains};
+ghost use Rattle.std.specs.Prelude.{◌≡◌, ◌≢◌, ◌↔◌, ◌⊎◌, ◌<◌, ◌≤◌, ℕ, List, [], None, Some, true, false, codes, length, Contains};
 ghost use Rattle.std.specs.Ordering.{is_lt};
 ghost use Rattle.pd_types.specs.declared.rule.Rule.{Rule};
 ghost use Rattle.pd_types.specs.declared.rule.RuleRole.TheVariants.{Voter};
 ghost use Rattle.pd_types.specs.declared.region.Region.{Region};
 ghost use Rattle.rule_set.specs.Order.{bytes_order, comes_before, without, AreApart};
-ghost use Rattle.rule_set.specs.Changes.{with_rule, default_rule};
+ghost use Rattle.rule_set.specs.declared.fault.RemoveFault.TheVariants.{Absent, LastRule};
+ghost use Rattle.rule_set.specs.declared.fault.SetFault.TheVariants.{Limit};
+ghost use Rattle.rule_set.specs.Changes.{default_rule, knows, remove_refusal, set_refusal, with_rule};
 ghost use Rattle.rule_set.specs.InForce.{holds, hides};
 ghost use Rattle.rule_set.specs.Borders.{IsBorder};
 
@@ -56,12 +58,35 @@ pub fn an_override_hides_its_group()
         ((later.overrides ≡ true) × (later.group ≡ rule.group) × (holds later key ≡ true)) }
 {}
 
-/// The default rule asks for three voters at every key.
+/// The default rule asks for three voters at every key; it is the rule `default` of the group `pd`, and
+/// overrides none.
 pub fn three_voters_anywhere()
     ensures held { (key : List ℕ) → holds default_rule key ≡ true }
     ensures voters { default_rule.role ≡ Voter }
     ensures three { default_rule.count ≡ 3 }
     ensures any { default_rule.constraints ≡ [] }
+    ensures group { default_rule.group ≡ codes "pd" }
+    ensures id { default_rule.id ≡ codes "default" }
+    ensures index { default_rule.index ≡ 0 }
+    ensures overrides { default_rule.overrides ≡ false }
+    ensures locations { default_rule.locations ≡ [] }
+{}
+
+/// Why a rule isn't set or removed: 64 rules refuse one of another name and no other, a rule that isn't
+/// there can't be removed, whatever else holds, and the last one can't.
+pub fn the_refusals_of_a_rule()
+    ensures replaces { (rule : Rule) (rules : List Rule) →
+        knows rule.group rule.id rules ≡ true → set_refusal rule rules ≡ None }
+    ensures room { (rule : Rule) (rules : List Rule) →
+        length rules < 64 → set_refusal rule rules ≡ None }
+    ensures full { (rule : Rule) (rules : List Rule) → knows rule.group rule.id rules ≡ false →
+        64 ≤ length rules → set_refusal rule rules ≡ Some Limit }
+    ensures absent { (group id : List ℕ) (rules : List Rule) →
+        knows group id rules ≡ false → remove_refusal group id rules ≡ Some Absent }
+    ensures last { (group id : List ℕ) (rules : List Rule) → knows group id rules ≡ true →
+        length rules ≡ 1 → remove_refusal group id rules ≡ Some LastRule }
+    ensures other { (group id : List ℕ) (rules : List Rule) → knows group id rules ≡ true →
+        length rules ≢ 1 → remove_refusal group id rules ≡ None }
 {}
 
 /// A border is a start or an end of a rule; it is neither end of the region, and not empty.

@@ -15,6 +15,7 @@ pub use conditions::{are_named_apart, have_few_locations};
 pub use fault::{RemoveFault, SetFault};
 pub use laws::{
     a_border_lies_inside, a_range_ends_before_its_end, an_override_hides_its_group,
-    group_then_index_then_id, rules_go_by_their_names, the_numbers, three_voters_anywhere,
+    group_then_index_then_id, rules_go_by_their_names, the_numbers, the_refusals_of_a_rule,
+    three_voters_anywhere,
 };
 pub use set::{MOST_LOCATIONS, MOST_RULES, RuleSet};

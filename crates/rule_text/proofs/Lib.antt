@@ -3,3 +3,4 @@ pub mod LawLemmas
 pub mod Lists
 pub mod Printed
 pub mod Readable
+pub mod TestLemmas

@@ -5,6 +5,7 @@ use Rattle.std.specs.List.Sorted.{IsNonDecreasingBy}
 use Rattle.std.proofs.lemmas.List.Elements.{Contains-append_left}
 use Rattle.pd_types.specs.declared.oracle.Batch.{Batch}
 use Rattle.pd_types.specs.declared.oracle.CellWord.{CellWord}
+use Rattle.pd_types.specs.declared.oracle.Seen.{Seen}
 use Rattle.pd_types.specs.declared.oracle.Window.{Window}
 use Rattle.tso_model.specs.declared.entries.Claim.{Claim}
 use Rattle.tso_model.specs.declared.entries.Grant.{Grant}
@@ -13,21 +14,21 @@ use Rattle.tso_model.specs.declared.view.Setup.{Setup}
 use Rattle.tso_model.specs.Lists.{total, times}
 use Rattle.tso_model.specs.History.{claims}
 use Rattle.tso_model.specs.Words.{opening_claim}
-use Rattle.tso_model.specs.Moves.{blank, joined, joined_cell, upper}
+use Rattle.tso_model.specs.Moves.{joined, joined_cell, upper}
 use Rattle.tso_model.specs.Ledger.{Gathered, HasAll, back, drawn_by}
 use Rattle.tso_model.proofs.Basics.{by_eq, in_head, in_tail, in_cons, in_nil}
 use Rattle.tso_model.proofs.Sums.{total-append}
 use Rattle.tso_model.proofs.Sorted.{gathered_lists}
-use Rattle.std.proofs.lemmas.List.{append_assoc}
+use Rattle.std.proofs.lemmas.List.{append_assoc, map-append}
 use Rattle.tso_board.specs.declared.seat.DriverSeat.{DriverSeat}
 use Rattle.tso_board.specs.declared.pass.Pass.{Pass}
 use Rattle.tso_board.specs.Seats.{seat_view}
 use Rattle.tso_board.specs.Passes.{pass_view}
 use Rattle.tso_board.specs.Actors.{IsDriverView, IsClientView}
-use Rattle.tso_board.specs.Ledger.{all_joined, all_claims, all_batches, HasEach, Unites, GatheredFrom}
+use Rattle.tso_board.specs.Ledger.{all_joined, first_in, all_claims, all_batches, HasEach, Unites, GatheredFrom}
 use Rattle.tso_board.proofs.Risings.{rises_by, claim_code, claim_one, batch_code, batch_one, windows_rise, batches_rise}
 
-joined_append : (v : View) (ds cs : List View) → all_joined v (ds ++ cs) ≡ all_joined (all_joined v ds) cs
+pub joined_append : (v : View) (ds cs : List View) → all_joined v (ds ++ cs) ≡ all_joined (all_joined v ds) cs
 joined_append v [] cs = refl
 joined_append v (d ∷ ds) cs = joined_append (joined v d) ds cs
 
@@ -66,8 +67,8 @@ none_total field f (w ∷ ws) each = omega (arith, ap (total f) (each w (in_head
 no_claims : (w : View) → IsClientView w → claims w ≡ []
 no_claims w c = λ i. c.older i ++ option_to_list (c.latest i)
 
-module _ (cell : CellWord) (ds cs : List View) (driver : (w : View) → Contains ds w → IsDriverView w) (client : (w : View) → Contains cs w → IsClientView w) where
-  together : Unites (all_joined (blank cell) (ds ++ cs)) ds cs
+module _ (cell : CellWord) (seen : Seen) (ds cs : List View) (driver : (w : View) → Contains ds w → IsDriverView w) (client : (w : View) → Contains cs w → IsClientView w) where
+  together : Unites (all_joined (first_in cell seen) (ds ++ cs)) ds cs
   together = record {
     claims = λ f. omega (arith, all claims f (claims_joined f), none_total claims f cs (λ w h. no_claims w (client w h)));
     starts = λ f. omega (arith, all (λ w. w.starts) f (λ v w. total-append f v.starts w.starts), none_total (λ w. w.starts) f cs (λ w h. (client w h).starts));
@@ -77,15 +78,15 @@ module _ (cell : CellWord) (ds cs : List View) (driver : (w : View) → Contains
     looks = λ f. omega (arith, all (λ w. w.looks) f (λ v w. total-append f v.looks w.looks), none_total (λ w. w.looks) f ds (λ w h. (driver w h).looks));
     refusals = λ f. omega (arith, all (λ w. w.refusals) f (λ v w. total-append f v.refusals w.refusals), none_total (λ w. w.refusals) f ds (λ w h. (driver w h).refusals));
     added = λ f. omega (arith, all (λ w. w.added) f (λ v w. total-append f v.added w.added), none_total (λ w. w.added) f ds (λ w h. (driver w h).added));
-    cells = λ w h. (cells_joined (blank cell) (ds ++ cs) refl).1 w (Contains-append_left ds cs w h);
+    cells = λ w h. (cells_joined (first_in cell seen) (ds ++ cs) refl).1 w (Contains-append_left ds cs w h);
   }
     where
       all : {A : Type 0} (field : View → List A) (f : A → ℕ) → ((v w : View) → total f (field (joined v w)) ≡ total f (field v) + total f (field w))
-          → total f (field (all_joined (blank cell) (ds ++ cs))) ≡ total f (field (blank cell)) + (total (λ (w : View). total f (field w)) ds + total (λ (w : View). total f (field w)) cs)
-      all field f one = omega (arith, field_joined field f one (blank cell) (ds ++ cs), total-append (λ (w : View). total f (field w)) ds cs)
+          → total f (field (all_joined (first_in cell seen) (ds ++ cs))) ≡ total f (field (first_in cell seen)) + (total (λ (w : View). total f (field w)) ds + total (λ (w : View). total f (field w)) cs)
+      all field f one = omega (arith, field_joined field f one (first_in cell seen) (ds ++ cs), total-append (λ (w : View). total f (field w)) ds cs)
 
-  pub unites : Unites (all_joined (all_joined (blank cell) ds) cs) ds cs
-  unites = subst (λ (v : View). Unites v ds cs) (joined_append (blank cell) ds cs) together
+  pub unites : Unites (all_joined (all_joined (first_in cell seen) ds) cs) ds cs
+  unites = subst (λ (v : View). Unites v ds cs) (joined_append (first_in cell seen) ds cs) together
 
 -- NUMBERS
 one_time : (n m : ℕ) → n ≡ m → 1 ≤ cond (eqb n m) 1 0
@@ -143,19 +144,29 @@ batches_total : (f : Batch → ℕ) (vs : List View) → total f (all_batches vs
 batches_total f [] = refl
 batches_total f (v ∷ vs) = omega (arith, total-append f (map (λ (g : Grant). g.batch) v.grants) (all_batches vs), batch_total f v.grants, batches_total f vs)
 
-module _ (k : Setup) (ds cs : List View) (driver : (w : View) → Contains ds w → IsDriverView w) (client : (w : View) → Contains cs w → IsClientView w) (g : Gathered k (all_joined (all_joined (blank k.cell) ds) cs)) where
+module _ (k : Setup) (ds cs : List View) (driver : (w : View) → Contains ds w → IsDriverView w) (client : (w : View) → Contains cs w → IsClientView w) (cell : CellWord) (seen : Seen) (g : Gathered k (all_joined (all_joined (first_in cell seen) ds) cs)) where
   abbrev whole : View
-  whole = all_joined (all_joined (blank k.cell) ds) cs
+  whole = all_joined (all_joined (first_in cell seen) ds) cs
 
   -- the sorted windows and batches of all are the ledger
   pub gathered : (xs : List Claim) (ws : List Window) (bs : List Batch) → ws ≡ map (λ (c : Claim). c.window) xs
       → IsNonDecreasingBy (λ (c : Claim). c.window.term) xs → ((f : Claim → ℕ) → total f xs ≡ total f (all_claims ds) + f (opening_claim k.cell))
       → IsNonDecreasingBy (λ (b : Batch). b.last) bs → ((f : Batch → ℕ) → total f bs ≡ total f (all_batches cs)) → GatheredFrom k ds cs ws bs
   gathered xs ws bs are sorted weigh rising weigh' =
-      let u = unites k.cell ds cs driver client in
+      let u = unites cell seen ds cs driver client in
       let claims_weigh : (f : Claim → ℕ) → total f xs ≡ total f (claims whole) + f (opening_claim k.cell) = λ f. omega (arith, weigh f, claims_total f ds, u.claims f) in
       let batches_weigh : (f : Batch → ℕ) → total f bs ≡ total (λ (g : Grant). f g.batch) whole.grants = λ f. omega (arith, weigh' f, batches_total f cs, u.grants (λ (g : Grant). f g.batch)) in
       let rise = rises_by (λ (c : Claim). c.window.term) claim_code claim_one (back (g.history.newest ∷ g.history.past)) (windows_rise (opening_claim k.cell) _ g.a.windows) xs sorted (λ f. omega (arith, claims_weigh f, g.a.claims f)) in
       let climb = rises_by (λ (b : Batch). b.last) batch_code batch_one (drawn_by g.history.drawn (g.history.newest ∷ g.history.past)) (batches_rise _ _ g.b.draws) bs rising (λ f. omega (arith, batches_weigh f, g.b.batches f)) in
       let lists = gathered_lists k whole xs bs g rise claims_weigh climb batches_weigh in
       record { view = whole; gathered = g; unites = u; claims = xs; windows_are = are; claims_weigh = claims_weigh; batches_weigh = batches_weigh; window_list = lists.0; draw_list = lists.1 }
+
+-- THE LAST SEAT
+-- the seats without the last were joined into the base, and then the last one, and the passes
+pub joined_whole : (cell : CellWord) (seen : Seen) (base after own next all : View) (ss rest : List DriverSeat) (last : DriverSeat) (cs : List View) → ss ≡ rest ++ last ∷ []
+    → base ≡ first_in cell seen → after ≡ all_joined base (map seat_view rest) → own ≡ seat_view last → next ≡ joined after own → all ≡ all_joined next cs
+    → all ≡ all_joined (all_joined (first_in cell seen) (map seat_view ss)) cs
+joined_whole cell seen base after own next all ss rest last cs are is is_after is_own is_next is_all =
+    let seats : all_joined (first_in cell seen) (map seat_view ss) ≡ joined (all_joined (first_in cell seen) (map seat_view rest)) (seat_view last) =
+    ap (λ (l : List DriverSeat). all_joined (first_in cell seen) (map seat_view l)) are ∙ ap (all_joined (first_in cell seen)) (map-append seat_view rest (last ∷ [])) ∙ joined_append (first_in cell seen) (map seat_view rest) (seat_view last ∷ []) in
+    is_all ∙ ap (λ (v : View). all_joined v cs) (is_next ∙ (λ i. joined ((is_after ∙ ap (λ (v : View). all_joined v (map seat_view rest)) is) i) (is_own i)) ∙ sym seats)

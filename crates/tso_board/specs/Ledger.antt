@@ -1,6 +1,8 @@
 -- What is gathered of a whole run. Own choice: a ledger is made of all seats and passes of one board, once nobody steps on it any more.
 use Rattle.std.specs.Prelude.{◌≡◌, ℕ, ◌+◌, ◌<◌, ◌≤◌, List, [], ◌∷◌, ◌++◌, map, Contains}
 use Rattle.pd_types.specs.declared.oracle.Batch.{Batch}
+use Rattle.pd_types.specs.declared.oracle.CellWord.{CellWord}
+use Rattle.pd_types.specs.declared.oracle.Seen.{Seen}
 use Rattle.pd_types.specs.declared.oracle.Window.{Window}
 use Rattle.tso_model.specs.declared.entries.Claim.{Claim}
 use Rattle.tso_model.specs.declared.entries.Grant.{Grant}
@@ -15,8 +17,12 @@ use Rattle.tso_model.specs.declared.view.Setup.{Setup}
 use Rattle.tso_model.specs.Lists.{total}
 use Rattle.tso_model.specs.Words.{opening_claim}
 use Rattle.tso_model.specs.History.{claims, claims as of_view}
-use Rattle.tso_model.specs.Moves.{joined}
+use Rattle.tso_model.specs.Moves.{blank, joined}
 use Rattle.tso_model.specs.Ledger.{Gathered, IsDrawList, IsWindowList}
+
+-- the view that all are joined into: it has seen something, and did nothing
+abbrev pub first_in : CellWord → Seen → View
+first_in opening seen = record (blank opening) { seen = seen }
 
 -- the view into which all of these were joined, one after the other
 abbrev pub all_joined : View → List View → View

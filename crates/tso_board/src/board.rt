@@ -1,6 +1,6 @@
-ghost use Rattle.std.specs.Prelude.{◌≡◌, ℕ, ◌+◌, ◌*◌, ◌≤◌, [], ◌∷◌, false, IfOk, List};
+ghost use Rattle.std.specs.Prelude.{◌≡◌, ℕ, ◌+◌, ◌*◌, ◌<◌, ◌≤◌, [], ◌∷◌, false, IfOk, List};
 ghost use Rattle.tso_model.specs.Ledger.{Gathered, HasAll};
-ghost use Rattle.tso_model.specs.Moves.{blank, first_words, gave_client, gave_driver, joined, new_client, new_driver};
+ghost use Rattle.tso_model.specs.Moves.{first_words, gave_client, gave_driver, joined, new_client, new_driver};
 ghost use Rattle.tso_model.specs.Sound.{IsSetup};
 ghost use Rattle.tso_model.specs.Steps.{AtRest};
 
@@ -18,15 +18,12 @@ pub(crate) type Words = Table<(), View, Setup, OracleRule, Global>;
 #[derive(Drop)]
 pub struct Board {
     pub(crate) table: Words,
-    /// The seat that gave all numbers and takes them back in the end.
-    pub(crate) base: Seat<(), View>,
     pub(crate) opening: CellWord,
     pub(crate) alloc: Global,
     ghost sized: { table.shared.table_id.words ≡ 1 + 2 * table.shared.key.drivers },
     ghost no_slots: { table.shared.table_id.slots ≡ 0 },
-    ghost based: { base.table_id ≡ table.shared.table_id },
     ghost opens: { table.shared.key.cell ≡ opening },
-    ghost gave_all: { base.me ≡ (blank table.shared.key.cell, []) },
+    ghost some: { 0 < table.shared.key.drivers },
 }
 
 /// The words of a new oracle.

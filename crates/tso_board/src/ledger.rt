@@ -2,15 +2,16 @@
 ghost use Rattle.std.specs.Prelude.{◌≡◌, ℕ, ◌+◌, ◌*◌, ◌<◌, List, [], ◌∷◌, ◌++◌, false, map, All, IfOk, IfErr, OnOk};
 ghost use Rattle.std.specs.List.Sorted.{IsNonDecreasingBy};
 ghost use Rattle.pd_types.specs.declared.oracle.Batch.{Batch};
+ghost use Rattle.pd_types.specs.declared.oracle.CellWord.{CellWord};
+ghost use Rattle.pd_types.specs.declared.oracle.Seen.{Seen};
 ghost use Rattle.tso_model.specs.declared.entries.Claim.{Claim};
 ghost use Rattle.tso_model.specs.declared.entries.Grant.{Grant};
 ghost use Rattle.tso_model.specs.History.{claims as of_view};
 ghost use Rattle.tso_model.specs.Ledger.{Gathered};
 ghost use Rattle.tso_model.specs.Lists.{total};
-ghost use Rattle.tso_model.specs.Moves.{blank};
 ghost use Rattle.tso_model.specs.Steps.{AtRest};
 ghost use Rattle.tso_model.specs.Words.{opening_claim};
-ghost use Rattle.tso_board.specs.Ledger.{HasEach, all_batches, all_claims, all_joined};
+ghost use Rattle.tso_board.specs.Ledger.{HasEach, all_batches, all_claims, all_joined, first_in};
 ghost use Rattle.tso_board.specs.Boards.{setup_of};
 ghost use Rattle.tso_board.specs.Crews.{IsGathered, IsLedgerOf, IsWhole, ledger_batches, ledger_windows};
 ghost use Rattle.tso_board.specs.Passes.{pass_view};
@@ -189,22 +190,24 @@ fn sort_batches(batches: &mut Vec<Batch>) -> Result<(), NoMemory>
     Ok(())
 }
 
-// Takes all seats and passes in and closes the words. What is left is a seat of no words.
-fn end(board: Board, seats: Vec<DriverSeat>, passes: Vec<Pass>) -> Seat<(), View>
+// Takes all seats and passes into a new seat, and closes the words. What is left is a seat of no words.
+fn end(board: Board, mut seats: Vec<DriverSeat>, passes: Vec<Pass>) -> Seat<(), View>
     requires seats { All (λ s. s.seat.table_id ≡ board.table.shared.table_id) seats.items }
     requires passes { All (λ p. p.seat.table_id ≡ board.table.shared.table_id) passes.items }
     requires drivers { HasEach (setup_of board).drivers (map (λ v. v.driver) (map seat_view seats.items)) }
     requires clients { HasEach (setup_of board).clients (map (λ v. v.client) (map pass_view passes.items)) }
-    ensures gathered { Gathered (setup_of board) (all_joined (all_joined (blank (setup_of board).cell) (map seat_view seats.items)) (map pass_view passes.items)) }
+    ensures gathered { (opening : CellWord) × (seen : Seen) × Gathered (setup_of board) (all_joined (all_joined (first_in opening seen) (map seat_view seats.items)) (map pass_view passes.items)) }
     ensures mark { result.table_id ≡ board.table.shared.table_id }
 {
-    let Board {
-        table,
-        mut base,
-        ..
-    } = board;
+    let Board { table, .. } = board;
+    let Some(last) = seats.pop() else {
+        unreachable!()
+    };
+    let mut last = last.into_seat();
+    let mut base = table.shared.split_seat::<Notes>(&mut last);
     let mark = table.shared.split_seat::<Notes>(&mut base);
     take_seats(&table, &mut base, seats);
+    take_in(&table, &mut base, last);
     take_passes(&table, &mut base, passes);
     close(table, base);
     mark

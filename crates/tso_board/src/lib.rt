@@ -14,7 +14,7 @@ mod seat;
 mod tests;
 
 pub use board::Board;
-pub use laws::numbers_in_order_are_all;
+pub use laws::{each_draw_stays_in_bound, numbers_in_order_are_all};
 pub use ledger::{Ledger, gather};
 pub use note::Note;
 pub use opening::{Crew, open};

@@ -42,7 +42,6 @@ pub fn open(alloc: Global, drivers: u8, clients: u8, cell: CellWord) -> Result<C
     Ok(Crew {
         board: Board {
             table,
-            base,
             opening: cell,
             alloc,
         },

@@ -1,5 +1,5 @@
 -- The tickets of a post's turn, and its slips.
-use Rattle.std.proofs.Common.{◌≡◌, ℕ, zero, suc, ◌+◌, ◌<◌, ◌≤◌, List, [], ◌∷◌, ◌++◌, length, map, sym, refl, ap, ◌∙◌, arith}
+use Rattle.std.proofs.Common.{◌≡◌, ℕ, zero, suc, ◌+◌, ◌<◌, ◌≤◌, List, [], ◌∷◌, ◌++◌, length, map, sym, refl, ap, ◌∙◌, subst, arith}
 use Rattle.std.specs.Prelude.{All}
 use Rattle.std.proofs.lemmas.List.Elements.{All-cons, All-map, All-nil}
 use mathlib.Core.Option.{some-injective, some-ne-none}
@@ -27,7 +27,7 @@ length_of a (suc n) = ap suc (length_of (a + 1) n)
 
 above : (a n x : ℕ) → Among x (numbers_from a n) → a ≤ x
 above a zero x h = absurd (some-ne-none x (sym h.1))
-above a (suc n) x (zero, e) = omega (arith, some-injective e)
+above a (suc n) x (zero, e) = omega (arith, some-injective a x e)
 above a (suc n) x (suc k, e) = omega (arith, above (a + 1) n x (k, e))
 
 pub apart : (a n : ℕ) → AreApart (numbers_from a n)
@@ -49,3 +49,6 @@ are_free turn slips h = All-map (IsFree turn) ticket_by slips (λ k d lt. record
 pub are_told : (journal : List PostEntry) (slips : List SlipValue) → All (IsToldBy (tale_of journal)) (map ticket_by slips) → All (IsInJournal journal) slips
 are_told journal [] h = All-nil (IsInJournal journal)
 are_told journal (s ∷ ss) h = All-cons (IsInJournal journal) s ss (h 0 (ticket_by s) (omega arith) ∙ items_are s.client journal) (are_told journal ss (λ k d lt. h (suc k) d (omega (arith, lt))))
+
+pub are_of : (post : TurnValue) (numbers : List ℕ) (slips : List SlipValue) → slips ≡ map (new_slip post) numbers → All (λ (s : SlipValue). s.post ≡ post) slips
+are_of post numbers slips is = subst (All (λ (s : SlipValue). s.post ≡ post)) (sym is) (All-map (λ (s : SlipValue). s.post ≡ post) (new_slip post) numbers (λ k d lt. refl))

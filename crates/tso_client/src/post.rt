@@ -162,6 +162,7 @@ impl<N: BoardName> Post<N> {
         requires clients { (0 < clients) × (clients ≤ 64) }
         ensures clients { IfOk result (λ r. clients_of r.0 ≡ clients) }
         ensures slips { IfOk result (λ r. r.1.items ≡ map (new_slip r.0) (numbers_from 1 clients)) }
+        ensures post { IfOk result (λ r. All (λ s. s.post ≡ r.0) r.1.items) }
     {
         let numbers = numbers(alloc, clients)?;
         let (turn, tickets) = Turn::open(alloc, Log::new(alloc)?, &numbers)?;

@@ -2,11 +2,10 @@ ghost use Rattle.std.specs.Prelude.{◌≡◌, ℕ, ◌+◌, ◌<◌, ◌≤◌,
 ghost use Rattle.tso_board.specs.Seats.{seat_view};
 ghost use Rattle.tso_driver.specs.Settled.{IsSettled};
 
-use crate::plan::{is_past_clock, is_saving, next_of_lead, next_of_tick};
 use crate::reply::{LeadReply, TickReply};
 use pd_types::LOGICAL;
 use tso_board::{Board, DriverSeat};
-use tso_model::AHEAD_MS;
+use tso_model::{AHEAD_MS, is_past_clock, is_saving, next_of_lead, next_of_tick};
 
 // The last term that a cell can have.
 const LAST_TERM: u64 = 262_143;
@@ -57,11 +56,11 @@ impl Driver {
         if cell.term == LAST_TERM {
             return LeadReply::TermsSpent;
         }
-        let next = next_of_lead(cell.saved, now);
-        if is_past_clock(next) {
+        let lo = next_of_lead(cell.saved, now);
+        if is_past_clock(lo) {
             return LeadReply::ClockRange;
         }
-        let hi = next + AHEAD_MS;
+        let hi = lo + AHEAD_MS;
         let term = match self.seat.campaign(board) {
             Err(found) => return LeadReply::Beaten { found },
             Ok(term) => term,
@@ -70,9 +69,9 @@ impl Driver {
             self.seat.resign(board);
             return LeadReply::Lost { found };
         }
-        self.seat.raise(board, next * LOGICAL);
+        self.seat.raise(board, lo * LOGICAL);
         self.seat.publish(board);
-        LeadReply::Won { term, lo: next, hi }
+        LeadReply::Won { term, lo, hi }
     }
 
     /// Moves the cursor on with the clock at this moment, in milliseconds, and saves a later end
@@ -100,14 +99,14 @@ impl Driver {
         if is_past_clock(next) {
             return TickReply::ClockRange;
         }
-        let hi = next + AHEAD_MS;
-        if let Err(found) = self.seat.save(board, hi) {
+        let end = next + AHEAD_MS;
+        if let Err(found) = self.seat.save(board, end) {
             self.seat.resign(board);
             return TickReply::Lost { found };
         }
         self.seat.raise(board, next * LOGICAL);
         self.seat.publish(board);
-        TickReply::Moved { next, hi }
+        TickReply::Moved { next, hi: end }
     }
 
     /// Gives the held term up: its limit is 0 from then on. Answers false, and does nothing, where no

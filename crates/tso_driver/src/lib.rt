@@ -2,9 +2,10 @@
 #![tactic(auto)]
 
 mod driver;
-mod plan;
 mod reply;
 mod said;
+#[cfg(test)]
+mod tests;
 
 pub use driver::Driver;
 pub use reply::{LeadReply, TickReply};

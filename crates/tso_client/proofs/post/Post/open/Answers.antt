@@ -2,7 +2,7 @@ use Rattle.std.proofs.Common.{◌≤◌, length, map, ap, ◌∙◌, sym, subst,
 use Rattle.std.specs.Prelude.{All}
 use Rattle.pd_turn.specs.Turns.{AreApart, new_ticket}
 use Rattle.tso_client.specs.Slips.{IsOpen, new_slip, slip_by}
-use Rattle.tso_client.proofs.Slipping.{apart, are_open, length_of, new_slips}
+use Rattle.tso_client.proofs.Slipping.{apart, are_of, are_open, length_of, new_slips}
 use Rattle.tso_client.proofs.post.Post.open.Goals as goal
 
 pub open-requires-clause-apart : goal.open-requires-clause-apart
@@ -21,3 +21,6 @@ returns-clause-clients g c = ap length (c.in_ok-turn.ensures.ok.0 ∙ c.in_ok-nu
 
 pub returns-clause-slips : goal.returns-clause-slips
 returns-clause-slips g c = c.in_ok-slips.ensures.value ∙ ap (map slip_by) c.in_ok-turn.ensures.ok.1 ∙ new_slips c.in_ok-turn.turn _ ∙ ap (map (new_slip c.in_ok-turn.turn)) c.in_ok-numbers.ensures.value
+
+pub returns-clause-post : goal.returns-clause-post
+returns-clause-post g c = are_of c.in_ok-turn.turn _ _ (c.in_ok-slips.ensures.value ∙ ap (map slip_by) c.in_ok-turn.ensures.ok.1 ∙ new_slips c.in_ok-turn.turn _ ∙ ap (map (new_slip c.in_ok-turn.turn)) c.in_ok-numbers.ensures.value)
