@@ -7,3 +7,4 @@ pub mod Firsts
 pub mod Stored
 pub mod Verdicts
 pub mod Prefixes
+pub mod Kept

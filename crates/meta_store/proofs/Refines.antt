@@ -76,7 +76,7 @@ lead_from fence counter entries term revision h = by (nat_lt term fence) h
     by false h = refl
 
 -- an accepted write counts one more
-written_at : (fence counter entries found : ℕ) (full : Bool) (term expected revision : ℕ) → verdicts.Accepted revision ≡ write_verdict fence counter entries found full term expected → revision ≡ counter + 1
+pub written_at : (fence counter entries found : ℕ) (full : Bool) (term expected revision : ℕ) → verdicts.Accepted revision ≡ write_verdict fence counter entries found full term expected → revision ≡ counter + 1
 written_at fence counter entries found full term expected revision h = by (nat_lt term fence) (nat_eq expected found) (full || nat_le MOST_ENTRIES entries) h
   where
     by : (a b c : Bool) → verdicts.Accepted revision ≡ cond a (verdicts.OldTerm fence) (cond b (cond c verdicts.Limit (verdicts.Accepted (counter + 1))) (verdicts.Conflict found)) → revision ≡ counter + 1

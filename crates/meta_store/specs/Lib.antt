@@ -5,3 +5,4 @@ pub mod Past
 pub mod Steps
 pub mod Stores
 pub mod Asked
+pub mod Known

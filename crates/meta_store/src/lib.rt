@@ -4,6 +4,7 @@
 mod ask;
 mod door;
 mod fault;
+mod known;
 mod laws;
 mod meta;
 mod record;
@@ -17,6 +18,7 @@ mod text;
 pub use ask::{ask_delete, ask_lead, ask_put};
 pub use door::Door;
 pub use fault::MetaFault;
+pub use known::{Known, the_last_answer_tells_a_revision, who_hears_all_knows_each_revision};
 pub use laws::{
     a_call_is_refused_by_what_stands_before_it, a_call_with_room_is_accepted,
     a_prefix_stands_first, accepted_writes_are_counted, all_records_are_handed_out,

@@ -1,12 +1,13 @@
 // The records by rising key.
-ghost use Rattle.std.specs.Prelude.{◌≡◌, ◌+◌, ◌<◌, ◌≤◌, ℕ, [], true, false, filter, length, slice_index_or, option_copied, IfOk, IfErr, OnOk, OnErr};
+ghost use Rattle.std.specs.Prelude.{◌≡◌, ◌+◌, ◌<◌, ◌≤◌, ℕ, [], true, false, filter, length, map, slice_index_or, option_copied, IfOk, IfErr, OnOk, OnErr};
 ghost use Rattle.pd_types.specs.BeatCheck.{is_below};
 ghost use Rattle.meta_store.specs.declared.record.Cell.{Cell};
 ghost use Rattle.meta_store.specs.Cells.{AreRising, begins_with, cell_at, placed, without};
+ghost use Rattle.meta_store.specs.Known.{bare};
 ghost use Rattle.meta_store.specs.Places.{Parts, Stands};
 
 use crate::{Cell, Cells};
-use pd_types::{Duplicate, NoMemory, Seq};
+use pd_types::{Bytes, Duplicate, NoMemory, Seq};
 use std::alloc::Global;
 use std::marker::Model;
 
@@ -131,6 +132,25 @@ impl Records {
         Records {
             held: Vec::new(alloc),
         }
+    }
+
+    /// These records without their bytes.
+    pub fn bare(alloc: Global, cells: &[Cell]) -> Result<Records, NoMemory>
+        requires { AreRising cells.now }
+        ensures value { IfOk result (λ records. records ≡ map bare cells.now) }
+    {
+        let mut held = Vec::with_capacity(alloc, cells.len())?;
+        for cell in cells {
+            let cell = Cell {
+                key: cell.key.copy(alloc)?,
+                revision: cell.revision,
+                bytes: Bytes::new(alloc),
+            };
+            held.push(Held {
+                cell: Box::new(alloc, cell)?,
+            })?;
+        }
+        Ok(Records { held })
     }
 
     /// How many records there are.

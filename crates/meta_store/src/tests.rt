@@ -1,6 +1,6 @@
 use crate::{
-    Cells, Meta, MetaFault, MetaVerdict, ask_delete, ask_lead, ask_put, id_text, read_id_text,
-    read_store_text, store_key, store_text,
+    Cells, Known, Meta, MetaFault, MetaVerdict, ask_delete, ask_lead, ask_put, id_text,
+    read_id_text, read_store_text, store_key, store_text,
 };
 use pd_types::{Bytes, Label, Labels, NoMemory, StoreRec, StoreState, Text};
 use std::alloc::Global;
@@ -151,6 +151,33 @@ fn a_door_is_asked_and_answers(rt: HostRuntime) -> Result<(), Fail> {
     let gone = ask_delete(alloc, &mut meta, 2, 3, key_of(alloc)?, 1)?;
     assert_eq!(rt; gone.verdict, MetaVerdict::Accepted { revision: 2 });
     assert_eq!(rt; meta.journal().len(), 5);
+    Ok(())
+}
+
+// A lead hands one record out; then come a write of it, one of another key, a deletion and a refused
+// write. In each row the revisions that are known of the keys `a` and `b` after the call.
+#[test]
+fn a_driver_knows_what_it_heard(rt: HostRuntime) -> Result<(), Fail> {
+    let alloc = rt.alloc();
+    let mut meta = Meta::new(alloc);
+    let mut known = Known::new(alloc);
+    assert_eq!(rt; meta.put_if(1, 0, b"a", 0, b"x"), Ok(1));
+    let lead = ask_lead(alloc, &mut meta, 1, 2)?;
+    known.hear(alloc, &lead)?;
+    assert_eq!(rt; (known.revision(b"a"), known.revision(b"b")), (1, 0));
+    let rows: [(&[u8], u64, u64, u64); 3] = [(b"a", 1, 2, 0), (b"b", 0, 2, 3), (b"b", 0, 2, 3)];
+    for (key, expected, first, second) in rows {
+        let key = Bytes::of(key.to_vec(alloc)?);
+        let put = ask_put(alloc, &mut meta, 1, 2, key, expected, key_of(alloc)?)?;
+        known.hear(alloc, &put)?;
+        assert_eq!(rt;
+            (known.revision(b"a"), known.revision(b"b")),
+            (first, second)
+        );
+    }
+    let gone = ask_delete(alloc, &mut meta, 1, 2, key_of(alloc)?, 2)?;
+    known.hear(alloc, &gone)?;
+    assert_eq!(rt; (known.revision(b"a"), known.revision(b"b")), (0, 3));
     Ok(())
 }
 

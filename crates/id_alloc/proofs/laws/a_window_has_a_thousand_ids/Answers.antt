@@ -3,6 +3,7 @@ use Rattle.std.specs.Prelude.{codes}
 use Rattle.std.specs.Fmt.{decimal}
 use Rattle.std.specs.Str.{bytes_eq}
 use Rattle.std.specs.Str.Parse.{AllDigits}
+use Rattle.std.proofs.lemmas.Bool.Decides.{nat_tests}
 use Rattle.std.proofs.lemmas.Fmt.{decimal-digits_value}
 use Rattle.std.proofs.lemmas.Str.Parse.{numerals_by_value, tells_digits}
 use Rattle.pd_lines.specs.Numeral.{number_of}
@@ -36,3 +37,6 @@ returns-clause-other c = ap (λ (o : Option ℕ). let w : Window = record { end 
 
 pub returns-clause-call : goal.returns-clause-call
 returns-clause-call c = ap (λ (d : List ℕ). let call : MetaCall = calls.Put 7 (codes "id") 5 d in call) second
+
+pub returns-clause-spent : goal.returns-clause-spent
+returns-clause-spent c = λ old talk is. (grind (arith, nat_tests, is.used), omega (arith, is.full))
