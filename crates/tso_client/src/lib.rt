@@ -8,6 +8,8 @@ mod entry;
 mod log;
 mod name;
 mod post;
+#[cfg(test)]
+mod tests;
 
 pub use batch::split;
 pub use draw::{DrawFault, take};
