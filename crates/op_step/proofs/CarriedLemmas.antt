@@ -122,11 +122,11 @@ emptied s p xs single k d low at =
     true≢false (sym (sym (ap (stays p) is) ∙ passes) ∙ ap not (itself p))
 
 -- a new peer's two steps
-new_learner : (id store : ℕ) (xs : List Peer) → All (λ (q : Peer). q.id ≢ id) xs → list_any (λ (q : Peer). q.store == store) xs ≡ false → peers_after (steps.AddLearner id store) xs ≡ xs ++ record { id = id; store = store; role = Learner } ∷ []
+pub new_learner : (id store : ℕ) (xs : List Peer) → All (λ (q : Peer). q.id ≢ id) xs → list_any (λ (q : Peer). q.store == store) xs ≡ false → peers_after (steps.AddLearner id store) xs ≡ xs ++ record { id = id; store = store; role = Learner } ∷ []
 new_learner id store xs new free =
     rw (list_any_none (λ (q : Peer). q.id == id) xs (λ k d low. apart (get_or xs k d).id id (new k d low)), free) refl
 
-new_voter : (id store : ℕ) (xs : List Peer) → All (λ (q : Peer). q.id ≢ id) xs → map (promoted id store) (xs ++ record { id = id; store = store; role = Learner } ∷ []) ≡ xs ++ record { id = id; store = store; role = Voter } ∷ []
+pub new_voter : (id store : ℕ) (xs : List Peer) → All (λ (q : Peer). q.id ≢ id) xs → map (promoted id store) (xs ++ record { id = id; store = store; role = Learner } ∷ []) ≡ xs ++ record { id = id; store = store; role = Voter } ∷ []
 new_voter id store [] new = rw (same_number id, same_number store) refl
 new_voter id store (x ∷ xs) new =
     rw (another id store x (All-head (λ (q : Peer). q.id ≢ id) x xs new), new_voter id store xs (All-tail (λ (q : Peer). q.id ≢ id) x xs new)) refl
@@ -143,7 +143,7 @@ adds store id now beat stores list may h =
     (subst (λ ps. Contains ps (record { id = id; store = store; role = Voter })) (sym peers) (Contains-push beat.region.peers _))
 
 -- an id that isn't 0 stays
-kept_id : (id peer : ℕ) → peer ≢ 0 → given id peer ≡ peer
+pub kept_id : (id peer : ℕ) → peer ≢ 0 → given id peer ≡ peer
 kept_id id peer some = rw (apart peer 0 some) refl
 
 -- TransferLeader: the peer on the store leads
