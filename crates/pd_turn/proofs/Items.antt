@@ -63,3 +63,8 @@ module _ {I : Type 0} where
   pub still_made_by : (numbers : List ℕ) (n : ℕ) (before : List (ℕ × I)) (new : List I) (whole : List (ℕ × I)) → Among n numbers → IsMadeBy numbers before → whole ≡ before ++ made_by n new → IsMadeBy numbers whole
   still_made_by numbers n before new whole is all w k x e = ⊎_elim (λ t. all k x t) (λ (t : (j : ℕ) × (get_elem? (made_by n new) j ≡ some x)). subst (λ m. Among m numbers) (made_by_number n new t.0 x t.1) is)
       (at_append before (made_by n new) k x (ap (λ l. get_elem? l k) (sym w) ∙ e))
+
+  -- where no number was given there is no item
+  pub nobody : (whole : List (ℕ × I)) → IsMadeBy [] whole → whole ≡ []
+  nobody [] is = refl
+  nobody (x ∷ xs) is = absurd (some-ne-none x.0 (sym (is 0 x refl).1))

@@ -10,6 +10,6 @@ mod ticket;
 mod turn;
 
 pub use rule::View;
-pub use tale::Tale;
+pub use tale::{Tale, a_list_is_its_numbers_part_of_the_tale};
 pub use ticket::Ticket;
 pub use turn::Turn;
