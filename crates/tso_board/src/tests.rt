@@ -91,3 +91,40 @@ fn gathers_the_opening_window(rt: HostRuntime) -> Result<(), Fail> {
     assert!(rt; ledger.batches().as_slice().is_empty());
     Ok(())
 }
+
+// What wants memory, twice. With `rt try --test --fail-alloc N` the Nth allocation of each test fails;
+// what was refused then leaves the crew whole, so that it comes the second time.
+#[test]
+fn want_of_memory_leaves_the_crew_whole(rt: HostRuntime) -> Result<(), Fail> {
+    let alloc = rt.alloc();
+    let mut opened = open(alloc, 2, 3, OPENING);
+    if opened.is_err() {
+        opened = open(alloc, 2, 3, OPENING);
+    }
+    let crew = opened?;
+    let ledger = match gather(crew) {
+        Ok(ledger) => ledger,
+        Err(crew) => {
+            assert!(rt; crew.seats.len() == 2 && crew.passes.len() == 3);
+            let Ok(ledger) = gather(crew) else {
+                return Err(Fail::new("no ledger"));
+            };
+            ledger
+        }
+    };
+    assert!(rt; ledger.windows().as_slice().len() == 1);
+    Ok(())
+}
+
+// Room that is refused is asked for once more, and the campaign finds the cell that was known.
+#[test]
+fn want_of_memory_leaves_a_seat_as_it_was(rt: HostRuntime) -> Result<(), Fail> {
+    let (board, mut first, _) = two_drivers(rt.alloc())?;
+    let known = first.read_cell(&board);
+    if first.reserve(1).is_err() {
+        assert!(rt; first.held().is_none() && first.reserve(1).is_ok());
+    }
+    let won = campaign(&board, &mut first, known);
+    assert!(rt; won == Some(Ok(6)));
+    Ok(())
+}

@@ -1,3 +1,4 @@
 mod Taking
 mod Posting
 mod Slipping
+mod Hearing

@@ -66,28 +66,28 @@ none_by false = refl
 -- WHAT WAITS
 module _ (journal : List PostEntry) (client line : ℕ) where
   -- a note left for this client, or for another
-  waits_told : (c : ℕ) (pairs : List Seen) (seen : Seen) → Waits c journal pairs → Waits c (journal ++ entry_of client line (Told c seen) ∷ []) (pairs ++ seen ∷ [])
+  pub waits_told : (c : ℕ) (pairs : List Seen) (seen : Seen) → Waits c journal pairs → Waits c (journal ++ entry_of client line (Told c seen) ∷ []) (pairs ++ seen ∷ [])
   waits_told c pairs seen w =
       told_more c journal (entry_of client line (Told c seen)) ∙ ap (λ b. told_to c journal ++ cond b (seen ∷ []) []) (eq-eqb c c refl) ∙ ap (λ l. l ++ seen ∷ []) w ∙ append_assoc (heard_by c journal) pairs (seen ∷ [])
       ∙ ap (λ l. l ++ (pairs ++ seen ∷ [])) (sym (heard_more c journal (entry_of client line (Told c seen)) ∙ ap (λ l. heard_by c journal ++ l) (none_by (eqb client c)) ∙ append-nil (heard_by c journal)))
 
-  waits_others : (c to : ℕ) (pairs : List Seen) (seen : Seen) → to ≢ c → Waits c journal pairs → Waits c (journal ++ entry_of client line (Told to seen) ∷ []) pairs
+  pub waits_others : (c to : ℕ) (pairs : List Seen) (seen : Seen) → to ≢ c → Waits c journal pairs → Waits c (journal ++ entry_of client line (Told to seen) ∷ []) pairs
   waits_others c to pairs seen ne w =
       told_more c journal (entry_of client line (Told to seen)) ∙ ap (λ b. told_to c journal ++ cond b (seen ∷ []) []) (ne_eqb to c ne) ∙ append-nil (told_to c journal) ∙ w
       ∙ ap (λ l. l ++ pairs) (sym (heard_more c journal (entry_of client line (Told to seen)) ∙ ap (λ l. heard_by c journal ++ l) (none_by (eqb client c)) ∙ append-nil (heard_by c journal)))
 
   -- a note heard by this client, or by another
-  waits_heard : (later : List Seen) (seen : Seen) → Waits client journal (seen ∷ later) → Waits client (journal ++ entry_of client line (Heard seen) ∷ []) later
+  pub waits_heard : (later : List Seen) (seen : Seen) → Waits client journal (seen ∷ later) → Waits client (journal ++ entry_of client line (Heard seen) ∷ []) later
   waits_heard later seen w =
       told_more client journal (entry_of client line (Heard seen)) ∙ append-nil (told_to client journal) ∙ w ∙ sym (append_assoc (heard_by client journal) (seen ∷ []) later)
       ∙ ap (λ l. l ++ later) (sym (heard_more client journal (entry_of client line (Heard seen)) ∙ ap (λ b. heard_by client journal ++ cond b (seen ∷ []) []) (eq-eqb client client refl)))
 
-  waits_unheard : (c : ℕ) (pairs : List Seen) (what : PostWhat) → told_by c what ≡ [] → client ≢ c → Waits c journal pairs → Waits c (journal ++ entry_of client line what ∷ []) pairs
+  pub waits_unheard : (c : ℕ) (pairs : List Seen) (what : PostWhat) → told_by c what ≡ [] → client ≢ c → Waits c journal pairs → Waits c (journal ++ entry_of client line what ∷ []) pairs
   waits_unheard c pairs what none ne w =
       told_more c journal (entry_of client line what) ∙ ap (λ l. told_to c journal ++ l) none ∙ append-nil (told_to c journal) ∙ w
       ∙ ap (λ l. l ++ pairs) (sym (heard_more c journal (entry_of client line what) ∙ ap (λ b. heard_by c journal ++ cond b (heard_in what) []) (ne_eqb client c ne) ∙ append-nil (heard_by c journal)))
 
-  waits_nothing : (c : ℕ) (pairs : List Seen) → Waits c journal pairs → Waits c (journal ++ entry_of client line Nothing ∷ []) pairs
+  pub waits_nothing : (c : ℕ) (pairs : List Seen) → Waits c journal pairs → Waits c (journal ++ entry_of client line Nothing ∷ []) pairs
   waits_nothing c pairs w =
       told_more c journal (entry_of client line Nothing) ∙ append-nil (told_to c journal) ∙ w
       ∙ ap (λ l. l ++ pairs) (sym (heard_more c journal (entry_of client line Nothing) ∙ ap (λ l. heard_by c journal ++ l) (none_by (eqb client c)) ∙ append-nil (heard_by c journal)))

@@ -5,6 +5,7 @@
 mod batch;
 mod draw;
 mod entry;
+mod laws;
 mod log;
 mod name;
 mod post;
@@ -14,5 +15,6 @@ mod tests;
 pub use batch::split;
 pub use draw::{DrawFault, take};
 pub use entry::{PostEntry, PostJournal, PostWhat};
+pub use laws::notes_are_heard_in_their_order;
 pub use name::BoardName;
 pub use post::{Post, Slip, Slips};
