@@ -6,3 +6,4 @@ pub mod Moving
 pub mod Ending
 pub mod Leaving
 pub mod Lawfully
+mod Naming

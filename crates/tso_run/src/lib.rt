@@ -5,6 +5,7 @@ mod caller;
 mod driving;
 mod end;
 mod halve;
+mod laws;
 mod line;
 mod runner;
 mod shared;
@@ -13,5 +14,6 @@ mod start;
 mod tests;
 
 pub use end::{ClientAnswers, DriverAnswers};
+pub use laws::each_line_is_its_actors;
 pub use line::{ClientAsk, ClientLine, DriverAsk, DriverLine};
 pub use runner::{Left, run};
