@@ -5,7 +5,7 @@ use pd_types::{
     Region, RegionBeat, Role, Rule, RuleRole, StoreRec, StoreState, Text, Texts,
 };
 use rule_fit::are_apart;
-use rule_set::RuleSet;
+use rule_set::{MOST_LOCATIONS, RuleSet};
 use std::alloc::Global;
 use std::test::Fail;
 use store_table::Stores;
@@ -54,6 +54,15 @@ fn ruled(
         constraints,
         locations: Texts::new(alloc),
     })
+}
+
+// Sets a rule that has few location labels, as each rule here.
+fn put_rule(rules: &mut RuleSet, one: Rule) -> Result<(), Fail> {
+    if one.locations.len() > MOST_LOCATIONS {
+        return Err(Fail::new("too many location labels"));
+    }
+    rules.set(one)?;
+    Ok(())
 }
 
 fn put_store(
@@ -236,8 +245,8 @@ fn a_region_fits(rt: HostRuntime) -> Result<(), Fail> {
 // Two rules of one voter each in these zones.
 fn two(alloc: Global, one: &str, other: &str) -> Result<RuleSet, Fail> {
     let mut rules = RuleSet::new(alloc)?;
-    rules.set(rule(alloc, "A", 1, one, "")?)?;
-    rules.set(rule(alloc, "default", 1, other, "")?)?;
+    put_rule(&mut rules, rule(alloc, "A", 1, one, "")?)?;
+    put_rule(&mut rules, rule(alloc, "default", 1, other, "")?)?;
     Ok(rules)
 }
 
@@ -259,7 +268,7 @@ fn a_border_is_named(rt: HostRuntime) -> Result<(), Fail> {
     let alloc = rt.alloc();
     let stores = four(alloc)?;
     let mut rules = RuleSet::new(alloc)?;
-    rules.set(rule(alloc, "x", 1, "", "40")?)?;
+    put_rule(&mut rules, rule(alloc, "x", 1, "", "40")?)?;
     let beat = region(alloc, &[(1, V)])?;
     let text = says(alloc, &beat, &rules, &stores, 1000)?;
     assert_eq!(rt; text.as_str(), "split 1");
@@ -271,7 +280,7 @@ fn the_leader_moves_before_it_goes(rt: HostRuntime) -> Result<(), Fail> {
     let alloc = rt.alloc();
     let stores = four(alloc)?;
     let mut rules = RuleSet::new(alloc)?;
-    rules.set(rule(alloc, "default", 1, "z2", "")?)?;
+    put_rule(&mut rules, rule(alloc, "default", 1, "z2", "")?)?;
     let beat = region(alloc, &[(1, V), (2, V)])?;
     let text = says(alloc, &beat, &rules, &stores, 1_801_001)?;
     assert_eq!(rt;
@@ -297,9 +306,7 @@ fn apart(alloc: Global, count: u32) -> Result<RuleSet, Fail> {
     let mut one = rule(alloc, "default", count, "", "")?;
     one.locations.push(text(alloc, "zone")?)?;
     let mut rules = RuleSet::new(alloc)?;
-    if one.locations.len() <= 4 {
-        rules.set(one)?;
-    }
+    put_rule(&mut rules, one)?;
     Ok(rules)
 }
 
@@ -332,8 +339,14 @@ fn the_least_voter_takes_the_lead(rt: HostRuntime) -> Result<(), Fail> {
     let alloc = rt.alloc();
     let stores = zones(alloc, &["z1", "z2", "z2"])?;
     let mut rules = RuleSet::new(alloc)?;
-    rules.set(ruled(alloc, "A", RuleRole::Leader, 1, "z2", "")?)?;
-    rules.set(ruled(alloc, "default", RuleRole::Follower, 2, "", "")?)?;
+    put_rule(
+        &mut rules,
+        ruled(alloc, "A", RuleRole::Leader, 1, "z2", "")?,
+    )?;
+    put_rule(
+        &mut rules,
+        ruled(alloc, "default", RuleRole::Follower, 2, "", "")?,
+    )?;
     let beat = region(alloc, &[(1, V), (2, V), (3, V)])?;
     let text = says(alloc, &beat, &rules, &stores, 1000)?;
     assert_eq!(rt;
@@ -378,8 +391,8 @@ fn a_learner_comes_to_the_least_store(rt: HostRuntime) -> Result<(), Fail> {
     let alloc = rt.alloc();
     let stores = zones(alloc, &["", "", "", ""])?;
     let mut rules = RuleSet::new(alloc)?;
-    rules.set(ruled(alloc, "A", RuleRole::Learner, 1, "", "")?)?;
-    rules.set(rule(alloc, "default", 2, "", "")?)?;
+    put_rule(&mut rules, ruled(alloc, "A", RuleRole::Learner, 1, "", "")?)?;
+    put_rule(&mut rules, rule(alloc, "default", 2, "", "")?)?;
     let beat = region(alloc, &[(1, V), (2, V)])?;
     let text = says(alloc, &beat, &rules, &stores, 1000)?;
     assert_eq!(rt; text.as_str(), "AddLearner 1 0, add-learner peer 0 store 3");
