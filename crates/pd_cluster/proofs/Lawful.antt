@@ -9,7 +9,7 @@ use Rattle.pd_script.proofs.Lawful.{lawful}
 use Rattle.pd_cluster.proofs.Histories.{history}
 use Rattle.pd_cluster.specs.Outcome.{SafeOutcome, SafeScript}
 use Rattle.pd_cluster.specs.declared.command.Command.{Command}
-use Rattle.pd_cluster.specs.declared.command.Command.TheVariants.{Replay, Tso}
+use Rattle.pd_cluster.specs.declared.command.Command.TheVariants.{Replay, Run, Tso}
 
 safe_result : (text : List ℕ) (r : Result Script ScriptRefusal) → script_of ByLine text ≡ r → SafeScript r
 safe_result text (Ok script) is = history ByLine script (lawful ByLine text script is)
@@ -17,4 +17,5 @@ safe_result text (Err refusal) is = tt
 
 pub safe_outcome : (command : Command) (text : List ℕ) → SafeOutcome command text
 safe_outcome Replay text = safe_result text (script_of ByLine text) refl
+safe_outcome Run text = tt
 safe_outcome (Tso timestamp) text = tt

@@ -12,14 +12,16 @@ use Rattle.pd_script.specs.declared.refusal.Limited.{Limited}
 use Rattle.pd_script.specs.declared.refusal.Limited.TheVariants.{Events, Drivers, Clients, Stores}
 use Rattle.pd_script.specs.declared.refusal.ScriptRefusal.{ScriptRefusal}
 use Rattle.pd_script.specs.declared.refusal.ScriptRefusal.TheVariants.{Fault, Limit as PastLimit, NoMemory as NoRoom}
-use Rattle.pd_script.specs.declared.script.Mode.TheVariants.{Replay as ByLine}
+use Rattle.pd_script.specs.declared.script.Mode.{Mode}
+use Rattle.pd_script.specs.declared.script.Mode.TheVariants.{Replay as ByLine, Run as OnThreads}
 use Rattle.pd_script.specs.declared.script.Script.{Script}
 use Rattle.pd_script.specs.declared.act.Line.{Line}
 use Rattle.pd_cluster.specs.Answers.{Answer, answers_text}
 use Rattle.pd_cluster.specs.History.{IsSafe, windows_of}
 use Rattle.pd_cluster.specs.Replay.{State, answers_of, line_step, start, state_after}
+use Rattle.pd_cluster.specs.RunOutcome.{RunsSafely, TellsRun}
 use Rattle.pd_cluster.specs.declared.command.Command.{Command}
-use Rattle.pd_cluster.specs.declared.command.Command.TheVariants.{Replay, Tso}
+use Rattle.pd_cluster.specs.declared.command.Command.TheVariants.{Replay, Run, Tso}
 use Rattle.pd_cluster.specs.declared.status.Status.{Status}
 use Rattle.pd_cluster.specs.declared.status.Status.TheVariants.{Done, Usage, Refused, ReadFault, WriteFault, NoMemory, Limit}
 
@@ -66,9 +68,20 @@ script_outcome (Err refusal) = refusal_outcome refusal
 abbrev pub replay_outcome : List ℕ → Outcome
 replay_outcome text = if nat_lt 16777216 (length text) then limit_bytes else script_outcome (script_of ByLine text)
 
+-- an outcome of `run` over a script is the text of any lawful run of it; over a text that is none it is the refusal
+abbrev pub IsScriptRun : Result Script ScriptRefusal → Outcome → Type 0
+IsScriptRun (Ok script) outcome = (outcome.status ≡ Done) × TellsRun script outcome.text
+IsScriptRun (Err refusal) outcome = outcome ≡ refusal_outcome refusal
+
+-- the same, where the text that was read may be too long
+abbrev pub IsRunUnless : Bool → Result Script ScriptRefusal → Outcome → Type 0
+IsRunUnless true read outcome = outcome ≡ limit_bytes
+IsRunUnless false read outcome = IsScriptRun read outcome
+
 -- a lawful outcome of a command over the text that it read
 abbrev pub IsOutcome : Command → List ℕ → Outcome → Type 0
 IsOutcome Replay text outcome = outcome ≡ replay_outcome text
+IsOutcome Run text outcome = IsRunUnless (nat_lt 16777216 (length text)) (script_of OnThreads text) outcome
 IsOutcome (Tso timestamp) text outcome = outcome ≡ tso_outcome timestamp
 
 -- Before and after each line, each cursor stands at most 64 milliseconds past the saved end, however many draws were refused
@@ -87,9 +100,10 @@ abbrev pub SafeScript : Result Script ScriptRefusal → Type 0
 SafeScript (Ok script) = IsSafeRun script
 SafeScript (Err refusal) = Unit {0}
 
--- a command's outcome over the text that it read is safe
+-- a command's outcome over the text that it read is safe; of `run` that is said of the run which its outcome tells
 abbrev pub SafeOutcome : Command → List ℕ → Type 0
 SafeOutcome Replay text = SafeScript (script_of ByLine text)
+SafeOutcome Run text = Unit {0}
 SafeOutcome (Tso timestamp) text = Unit {0}
 
 -- this text was taken, and it is the whole, or longer than the limit
@@ -100,6 +114,7 @@ pub record Takes (old new : Option (List ℕ)) (text : List ℕ) : Type 0 where
 -- what a command takes of the source
 abbrev pub Reads : Command → Option (List ℕ) → Option (List ℕ) → List ℕ → Type 0
 Reads Replay old new text = Takes old new text
+Reads Run old new text = Takes old new text
 Reads (Tso timestamp) old new text = Keeps old new × (text ≡ [])
 
 -- The outcome was written whole, or a fault of the sink or want of memory left a prefix of its text.
@@ -124,38 +139,45 @@ pub record PrintsSafely (script : Script) (Writes : List ℕ → Type 0) : Type 
   pub printed : Writes (answers_text answers)
   pub safe : IsSafe answers
 
+-- what a script answers in a mode is written in this way, and is safe
+abbrev pub SafelyPrints : Mode → Script → (List ℕ → Type 0) → Type 0
+SafelyPrints ByLine script Writes = PrintsSafely script Writes
+SafelyPrints OnThreads script Writes = RunsSafely script Writes
+
 -- the answers of a script are written in this way, or a text that has none: the line at fault, or the limit
-abbrev pub Prints : Result Script ScriptRefusal → (List ℕ → Type 0) → Type 0
-Prints (Ok script) Writes = PrintsSafely script Writes
-Prints (Err refusal) Writes = Writes (refusal_outcome refusal).text
+abbrev pub Prints : Mode → Result Script ScriptRefusal → (List ℕ → Type 0) → Type 0
+Prints mode (Ok script) Writes = SafelyPrints mode script Writes
+Prints mode (Err refusal) Writes = Writes (refusal_outcome refusal).text
 
 -- the same, where the text that was read may be too long
-abbrev pub PrintsUnless : Bool → Result Script ScriptRefusal → (List ℕ → Type 0) → Type 0
-PrintsUnless true read Writes = Writes limit_bytes.text
-PrintsUnless false read Writes = Prints read Writes
+abbrev pub PrintsUnless : Mode → Bool → Result Script ScriptRefusal → (List ℕ → Type 0) → Type 0
+PrintsUnless mode true read Writes = Writes limit_bytes.text
+PrintsUnless mode false read Writes = Prints mode read Writes
 
 -- The headline: what is printed of the text that was taken are answers to its lines that grant no timestamp twice
-pub record GrantsNoneTwice (left_old left_new : Option (List ℕ)) (Writes : List ℕ → Type 0) : Type 0 where
+pub record GrantsNoneTwice (mode : Mode) (left_old left_new : Option (List ℕ)) (Writes : List ℕ → Type 0) : Type 0 where
   pub text : List ℕ
   pub taken : Takes left_old left_new text
-  pub printed : PrintsUnless (nat_lt 16777216 (length text)) (script_of ByLine text) Writes
+  pub printed : PrintsUnless mode (nat_lt 16777216 (length text)) (script_of mode text) Writes
 
 -- The headline by status: printed whole, or cut to a prefix by a fault of the sink or want of memory; nothing was printed after a
 -- failed read, or where memory was wanting before that
-abbrev pub ReplaySafely : Status → Option (List ℕ) → Option (List ℕ) → Option (List ℕ) → Option (List ℕ) → Type 0
-ReplaySafely WriteFault left_old left_new held_old held_new = GrantsNoneTwice left_old left_new (WritesPrefix held_old held_new)
-ReplaySafely NoMemory left_old left_new held_old held_new = Keeps held_old held_new ⊎ GrantsNoneTwice left_old left_new (WritesPrefix held_old held_new)
-ReplaySafely ReadFault left_old left_new held_old held_new = Keeps held_old held_new
-ReplaySafely status left_old left_new held_old held_new = GrantsNoneTwice left_old left_new (Appends held_old held_new)
+abbrev pub AnswersSafely : Mode → Status → Option (List ℕ) → Option (List ℕ) → Option (List ℕ) → Option (List ℕ) → Type 0
+AnswersSafely mode WriteFault left_old left_new held_old held_new = GrantsNoneTwice mode left_old left_new (WritesPrefix held_old held_new)
+AnswersSafely mode NoMemory left_old left_new held_old held_new = Keeps held_old held_new ⊎ GrantsNoneTwice mode left_old left_new (WritesPrefix held_old held_new)
+AnswersSafely mode ReadFault left_old left_new held_old held_new = Keeps held_old held_new
+AnswersSafely mode status left_old left_new held_old held_new = GrantsNoneTwice mode left_old left_new (Appends held_old held_new)
 
 -- the headline of a command; `tso` prints no answers
 abbrev pub IsHeadline : Command → Status → Option (List ℕ) → Option (List ℕ) → Option (List ℕ) → Option (List ℕ) → Type 0
-IsHeadline Replay status left_old left_new held_old held_new = ReplaySafely status left_old left_new held_old held_new
+IsHeadline Replay status left_old left_new held_old held_new = AnswersSafely ByLine status left_old left_new held_old held_new
+IsHeadline Run status left_old left_new held_old held_new = AnswersSafely OnThreads status left_old left_new held_old held_new
 IsHeadline (Tso timestamp) status left_old left_new held_old held_new = Unit {0}
 
 -- a read that failed took no more than the limit; `tso` reads nothing, so that none fails
 abbrev pub IsUnread : Command → Option (List ℕ) → Option (List ℕ) → Type 0
 IsUnread Replay old new = TakesFew old new 16777216
+IsUnread Run old new = TakesFew old new 16777216
 IsUnread (Tso timestamp) old new = ⊥
 
 -- how a run of a command may end
@@ -164,7 +186,8 @@ Ends command ReadFault left_old left_new held_old held_new = IsUnread command le
 Ends command NoMemory left_old left_new held_old held_new = Keeps held_old held_new ⊎ Answers command NoMemory left_old left_new held_old held_new
 Ends command status left_old left_new held_old held_new = Answers command status left_old left_new held_old held_new
 
--- what a command asks of the source, however it ends: `replay` at most the limit and one piece, `tso` nothing
+-- what a command asks of the source, however it ends: `replay` and `run` at most the limit and one piece, `tso` nothing
 abbrev pub Asks : Command → Option (List ℕ) → Option (List ℕ) → Type 0
 Asks Replay old new = TakesFew old new (16777216 + 4096)
+Asks Run old new = TakesFew old new (16777216 + 4096)
 Asks (Tso timestamp) old new = Keeps old new

@@ -2,7 +2,10 @@
 use Rattle.std.specs.Prelude.{◌≡◌, ◌≤◌, ℕ, List, Option, Result, IsErrOf, string_bytes}
 use Rattle.pd_io.specs.Faults.{Rose}
 use Rattle.pd_cluster.specs.Outcome.{Outcome, IsOutcome, Reads}
+use Rattle.pd_script.specs.declared.script.Mode.{Mode}
+use Rattle.pd_script.specs.declared.script.Mode.TheVariants.{Replay as ByLine, Run as OnThreads}
 use Rattle.pd_cluster.specs.declared.command.Command.{Command}
+use Rattle.pd_cluster.specs.declared.command.Command.TheVariants.{Replay, Run}
 use Rattle.pd_cluster.specs.declared.response.Response.{Response}
 use Rattle.pd_cluster.specs.declared.top.Failure.{Failure}
 use Rattle.pd_cluster.specs.declared.top.Failure.TheVariants.{ReadFault as FailedRead}
@@ -13,6 +16,15 @@ use Rattle.pd_cluster.specs.declared.status.Status.TheVariants.{ReadFault, Write
 pub record Gives (outcome : Outcome) (response : Response) : Type 0 where
   pub status : response.status ≡ outcome.status
   pub text : string_bytes response.text ≡ outcome.text
+
+-- the command that answers a script in this mode
+abbrev pub command_in : Mode → Command
+command_in ByLine = Replay
+command_in OnThreads = Run
+
+-- the outcome that a response stands for
+abbrev pub outcome_of : Response → Outcome
+outcome_of response = record { status = response.status; text = string_bytes response.text }
 
 -- a status that only a text gives
 abbrev pub IsFinal : Status → Type 0

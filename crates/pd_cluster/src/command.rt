@@ -7,6 +7,8 @@ use pd_lines::number;
 pub enum Command {
     /// Run the lines of a script in their order.
     Replay,
+    /// Run the lines of a script, each driver's and each client's on a thread of its own.
+    Run,
     /// Print the two parts of a timestamp.
     Tso { timestamp: u64 },
 }
@@ -20,6 +22,7 @@ impl Command {
     {
         match words {
             [word] if word.as_str() == "replay" => Some(Command::Replay),
+            [word] if word.as_str() == "run" => Some(Command::Run),
             [word, timestamp] if word.as_str() == "tso" => {
                 let timestamp = number(timestamp.as_bytes())?;
                 Some(Command::Tso { timestamp })

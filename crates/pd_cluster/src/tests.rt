@@ -2,9 +2,12 @@
 use crate::status::Status;
 use crate::top::{MAX_BYTES, pd_top};
 use pd_io::{MemSink, MemSource, SureSink, SureSource};
+use pd_types::OpenGate;
 use std::alloc::{AllocError, Global};
 use std::process::Abort;
+use std::sync::Wait;
 use std::test::Fail;
+use std::thread::Threads;
 
 const SCRIPT: &str = "lead 1 1000\ntake 1 1 3\n";
 
@@ -21,8 +24,8 @@ fn words_of(alloc: Global, words: &[&str]) -> Result<Vec<String>, AllocError> {
 }
 
 // Runs `replay` over a script, and compares how it ends and what it writes.
-fn expect(
-    rt: &impl Abort,
+fn expect<R: Threads + Wait + Sync + Abort>(
+    rt: &R,
     alloc: Global,
     script: &str,
     status: Status,
@@ -31,7 +34,7 @@ fn expect(
     let words = words_of(alloc, &["replay"])?;
     let mut source = SureSource::new(script.as_bytes().to_vec(alloc)?);
     let mut sink = SureSink::new(alloc);
-    let ended = pd_top(alloc, &words, &mut source, &mut sink);
+    let ended = pd_top(rt, alloc, &words, &mut source, &mut sink, &OpenGate);
     assert_eq!(rt; ended, status, "{script}");
     assert_eq!(rt; sink.bytes(), written.as_bytes(), "{script}");
     Ok(())
@@ -340,8 +343,8 @@ fn one_event_too_many_is_counted(rt: HostRuntime) -> Result<(), Fail> {
 }
 
 // Runs the first script with a call of the source or of the sink that fails (0: none).
-fn expect_fault(
-    rt: &impl Abort,
+fn expect_fault<R: Threads + Wait + Sync + Abort>(
+    rt: &R,
     alloc: Global,
     read_fails: u32,
     write_fails: u32,
@@ -352,7 +355,7 @@ fn expect_fault(
     let bytes = SCRIPT.as_bytes().to_vec(alloc)?;
     let mut source = MemSource::new(bytes, 5, vec![in alloc; read_fails]?);
     let mut sink = MemSink::new(alloc, 1, vec![in alloc; write_fails]?);
-    let ended = pd_top(alloc, &words, &mut source, &mut sink);
+    let ended = pd_top(rt, alloc, &words, &mut source, &mut sink, &OpenGate);
     assert_eq!(rt; ended, status);
     assert_eq!(rt; sink.bytes(), written.as_bytes());
     Ok(())
@@ -374,11 +377,15 @@ fn a_fault_ends_the_run_with_its_status(rt: HostRuntime) -> Result<(), Fail> {
 }
 
 // Runs other words than `replay`, whose answer is the usage text.
-fn expect_usage(rt: &impl Abort, alloc: Global, words: &[&str]) -> Result<(), AllocError> {
+fn expect_usage<R: Threads + Wait + Sync + Abort>(
+    rt: &R,
+    alloc: Global,
+    words: &[&str],
+) -> Result<(), AllocError> {
     let words = words_of(alloc, words)?;
     let mut source = SureSource::new(Vec::new(alloc));
     let mut sink = SureSink::new(alloc);
-    let ended = pd_top(alloc, &words, &mut source, &mut sink);
+    let ended = pd_top(rt, alloc, &words, &mut source, &mut sink, &OpenGate);
     assert_eq!(rt; ended, Status::Usage);
     let usage = "usage: pd_cluster replay | run | gen FROM N | tso N\n";
     assert_eq!(rt; sink.bytes(), usage.as_bytes());
@@ -389,7 +396,7 @@ fn expect_usage(rt: &impl Abort, alloc: Global, words: &[&str]) -> Result<(), Al
 fn other_words_are_answered_with_the_usage(rt: HostRuntime) -> Result<(), Fail> {
     expect_usage(&rt, rt.alloc(), &[])?;
     expect_usage(&rt, rt.alloc(), &["replay", "x"])?;
-    expect_usage(&rt, rt.alloc(), &["run"])?;
+    expect_usage(&rt, rt.alloc(), &["run", "1"])?;
     expect_usage(&rt, rt.alloc(), &["tso", "01"])?;
     expect_usage(&rt, rt.alloc(), &["tso"])?;
     expect_usage(&rt, rt.alloc(), &["--help"])?;
@@ -397,8 +404,8 @@ fn other_words_are_answered_with_the_usage(rt: HostRuntime) -> Result<(), Fail> 
 }
 
 // Prints a timestamp's parts. The source fails where it is asked.
-fn expect_parts(
-    rt: &impl Abort,
+fn expect_parts<R: Threads + Wait + Sync + Abort>(
+    rt: &R,
     alloc: Global,
     timestamp: &str,
     text: &str,
@@ -406,7 +413,7 @@ fn expect_parts(
     let words = words_of(alloc, &["tso", timestamp])?;
     let mut source = MemSource::new(Vec::new(alloc), 1, vec![in alloc; 1]?);
     let mut sink = SureSink::new(alloc);
-    let ended = pd_top(alloc, &words, &mut source, &mut sink);
+    let ended = pd_top(rt, alloc, &words, &mut source, &mut sink, &OpenGate);
     assert_eq!(rt; ended, Status::Done);
     assert_eq!(rt; sink.bytes(), text.as_bytes());
     Ok(())
@@ -438,7 +445,7 @@ fn one_byte_too_many_is_refused(rt: HostRuntime) -> Result<(), Fail> {
     let bytes = vec![in alloc; b'x'; MAX_BYTES + 1]?;
     let mut source = SureSource::new(bytes);
     let mut sink = SureSink::new(alloc);
-    let ended = pd_top(alloc, &words, &mut source, &mut sink);
+    let ended = pd_top(&rt, alloc, &words, &mut source, &mut sink, &OpenGate);
     assert_eq!(rt; ended, Status::Limit);
     assert_eq!(rt; sink.bytes(), b"limit bytes 16777217\n".as_slice());
     Ok(())

@@ -1,25 +1,30 @@
 // The program over whatever source and sink it is handed.
-ghost use Rattle.std.specs.Prelude.{◌≡◌, ◌≢◌, ◌≤◌, IfOk, IfNone, IfSome, IsErrOf, length, map, string_bytes};
+ghost use Rattle.std.specs.Prelude.{◌+◌, ◌≡◌, ◌≢◌, ◌≤◌, IfOk, IfNone, IfSome, IsErrOf, length, map, string_bytes};
 ghost use Rattle.std.specs.Io.KnownBytes.{Keeps};
 ghost use Rattle.pd_cluster.specs.Command.{command_of};
-ghost use Rattle.pd_cluster.specs.Outcome.{Asks, TellsParts, Ends, IsHeadline, IsUnread, Leaves, Outcome, limit_bytes, limited_text, refusal_outcome, script_outcome, tso_outcome, usage};
-ghost use Rattle.pd_cluster.specs.Response.{Gives, HasEndCause, HasFailureCause, IsFinal, Responds};
-ghost use Rattle.pd_cluster.specs.declared.command.Command.TheVariants.{Replay};
+ghost use Rattle.pd_cluster.specs.Outcome.{Asks, TellsParts, Ends, IsHeadline, IsOutcome, IsScriptRun, IsUnread, Leaves, Outcome, limit_bytes, limited_text, refusal_outcome, script_outcome, tso_outcome, usage};
+ghost use Rattle.pd_cluster.specs.Response.{Gives, HasEndCause, HasFailureCause, IsFinal, Responds, command_in, outcome_of};
+ghost use Rattle.pd_cluster.specs.RunOutcome.{TellsRun};
 ghost use Rattle.pd_cluster.specs.declared.status.Status.TheVariants.{ReadFault, WriteFault};
 ghost use Rattle.pd_lines.specs.Input.{TakesFew};
+ghost use Rattle.pd_script.specs.Lawful.{IsLawfulScript};
 ghost use Rattle.pd_script.specs.Scripts.{script_of};
 ghost use Rattle.pd_script.specs.declared.refusal.ScriptRefusal.TheVariants.{Fault, Limit as PastLimit};
-ghost use Rattle.pd_script.specs.declared.script.Mode.TheVariants.{Replay as ByLine};
+ghost use Rattle.pd_script.specs.declared.script.Mode.TheVariants.{Replay as ByLine, Run as OnThreads};
 
 use crate::command::Command;
-use crate::replay::replay_script;
+use crate::replay::{opening_cell, replay_script};
 use crate::response::Response;
+use crate::run::run_script;
 use crate::status::Status;
 use pd_io::{PutFault, Sink, Source};
 use pd_lines::{ReadRefusal, put_all, read_all};
-use pd_script::{Limited, Mode, Reason, ScriptRefusal, read_script};
-use pd_types::{NoMemory, unpack};
+use pd_script::{Limited, Mode, Reason, Script, ScriptRefusal, read_script};
+use pd_types::{Gate, NoMemory, unpack};
 use std::alloc::{AllocError, Global};
+use std::sync::Wait;
+use std::thread::Threads;
+use tso_board::open;
 
 /// How many bytes a script has at most.
 pub const MAX_BYTES: usize = 16777216;
@@ -107,6 +112,18 @@ fn past_limit_response(alloc: Global, what: Limited, count: u64) -> Result<Respo
     })
 }
 
+// The response to a text that is no script.
+fn refusal_response(alloc: Global, refusal: ScriptRefusal) -> Result<Response, NoMemory>
+    ensures gives { IfOk result (Gives (refusal_outcome refusal)) }
+    ensures settled { IfOk result (λ r. IsFinal r.status) }
+{
+    match refusal {
+        ScriptRefusal::Fault { line, reason } => Ok(fault_response(alloc, line, reason)?),
+        ScriptRefusal::Limit { what, count } => Ok(past_limit_response(alloc, what, count)?),
+        ScriptRefusal::NoMemory => Err(NoMemory),
+    }
+}
+
 // The response to a script.
 fn script_response(alloc: Global, text: &[u8]) -> Result<Response, NoMemory>
     requires { length text.now ≤ 16777216 }
@@ -121,21 +138,84 @@ fn script_response(alloc: Global, text: &[u8]) -> Result<Response, NoMemory>
                 text,
             })
         }
-        Err(ScriptRefusal::Fault { line, reason }) => Ok(fault_response(alloc, line, reason)?),
-        Err(ScriptRefusal::Limit { what, count }) => Ok(past_limit_response(alloc, what, count)?),
-        Err(ScriptRefusal::NoMemory) => Err(NoMemory),
+        Err(refusal) => refusal_response(alloc, refusal),
     }
 }
 
-// The response to what the source gives, as a script.
-fn replay_response<S: Source>(alloc: Global, source: &mut S) -> Result<Response, Failure>
-    ensures answered { IfOk result (Responds Replay (S.left source.old) (S.left source.new)) }
+// The text of a script's run on threads.
+fn run_on_threads<R: Threads + Wait + Sync, G: Gate + Sync>(
+    rt: &R,
+    alloc: Global,
+    script: &Script,
+    gate: &G,
+) -> Result<String, NoMemory>
+    requires lawful { IsLawfulScript OnThreads script.now }
+    ensures told { IfOk result (λ text. TellsRun script.now (string_bytes text)) }
+{
+    let cell = opening_cell(script.lines.as_slice());
+    let crew = open(alloc, script.drivers, script.clients, cell)?;
+    let (text, _) = run_script(rt, alloc, script, crew, gate)?;
+    Ok(text)
+}
+
+// The response to a script that runs on threads.
+fn threads_response<R: Threads + Wait + Sync, G: Gate + Sync>(
+    rt: &R,
+    alloc: Global,
+    text: &[u8],
+    gate: &G,
+) -> Result<Response, NoMemory>
+    requires { length text.now ≤ 16777216 }
+    ensures answered { IfOk result (λ r. IsScriptRun (script_of OnThreads text.now) (outcome_of r)) }
+    ensures settled { IfOk result (λ r. IsFinal r.status) }
+{
+    match read_script(alloc, text, Mode::Run) {
+        Ok(script) => {
+            let text = run_on_threads(rt, alloc, &script, gate)?;
+            Ok(Response {
+                status: Status::Done,
+                text,
+            })
+        }
+        Err(refusal) => refusal_response(alloc, refusal),
+    }
+}
+
+// The response to a text, as a script in this mode.
+fn text_response<R: Threads + Wait + Sync, G: Gate + Sync>(
+    rt: &R,
+    alloc: Global,
+    mode: Mode,
+    text: &[u8],
+    gate: &G,
+) -> Result<Response, NoMemory>
+    requires { length text.now ≤ 16777216 }
+    ensures answered { IfOk result (λ r. IsOutcome (command_in mode) text.now (outcome_of r)) }
+    ensures settled { IfOk result (λ r. IsFinal r.status) }
+{
+    match mode {
+        Mode::Replay => script_response(alloc, text),
+        Mode::Run => threads_response(rt, alloc, text, gate),
+    }
+}
+
+// The response to what the source gives, as a script in this mode.
+fn source_response<R: Threads + Wait + Sync, S: Source, G: Gate + Sync>(
+    rt: &R,
+    alloc: Global,
+    mode: Mode,
+    source: &mut S,
+    gate: &G,
+) -> Result<Response, Failure>
+    ensures answered { IfOk result (Responds (command_in mode) (S.left source.old) (S.left source.new)) }
     ensures unread { IsErrOf result Failure.ReadFault → TakesFew (S.left source.old) (S.left source.new) 16777216 }
-    ensures asked { Asks Replay (S.left source.old) (S.left source.new) }
+    ensures asked { TakesFew (S.left source.old) (S.left source.new) (16777216 + 4096) }
     ensures cause { HasFailureCause (S.faults source.old) (S.faults source.new) result }
 {
     match read_all(alloc, source, MAX_BYTES) {
-        Ok(text) => script_response(alloc, text.as_slice()).map_err(|_| Failure::NoMemory),
+        Ok(text) => text_response(rt, alloc, mode, text.as_slice(), gate).map_err(
+            |_| Failure::NoMemory,
+        ),
         Err(ReadRefusal::TooLong) => limit_response(alloc).map_err(|_| Failure::NoMemory),
         Err(ReadRefusal::ReadFault) => Err(Failure::ReadFault),
         Err(ReadRefusal::NoMemory) => Err(Failure::NoMemory),
@@ -143,14 +223,21 @@ fn replay_response<S: Source>(alloc: Global, source: &mut S) -> Result<Response,
 }
 
 // What is to be written, for a command and what the source gives.
-fn respond<S: Source>(alloc: Global, command: Command, source: &mut S) -> Result<Response, Failure>
+fn respond<R: Threads + Wait + Sync, S: Source, G: Gate + Sync>(
+    rt: &R,
+    alloc: Global,
+    command: Command,
+    source: &mut S,
+    gate: &G,
+) -> Result<Response, Failure>
     ensures answered { IfOk result (Responds command (S.left source.old) (S.left source.new)) }
     ensures unread { IsErrOf result Failure.ReadFault → IsUnread command (S.left source.old) (S.left source.new) }
     ensures asked { Asks command (S.left source.old) (S.left source.new) }
     ensures cause { HasFailureCause (S.faults source.old) (S.faults source.new) result }
 {
     match command {
-        Command::Replay => replay_response(alloc, source),
+        Command::Replay => source_response(rt, alloc, Mode::Replay, source, gate),
+        Command::Run => source_response(rt, alloc, Mode::Run, source, gate),
         Command::Tso { timestamp } => {
             tso_response(alloc, timestamp).map_err(|_| Failure::NoMemory)
         }
@@ -172,19 +259,23 @@ fn write_out<K: Sink>(response: &Response, sink: &mut K) -> Status
 }
 
 /// Does all that the program does: what the words of the command line ask for, from the source to
-/// the sink. The whole script is read and checked before a line of it runs.
-pub fn pd_top<S: Source, K: Sink>(
+/// the sink. The whole script is read and checked before a line of it runs. `run` alone starts
+/// threads and asks the gate: each line is answered once the gate lets its actor, or was asked
+/// 1,000,000 times, and the gate hears of the answer.
+pub fn pd_top<R: Threads + Wait + Sync, S: Source, K: Sink, G: Gate + Sync>(
+    rt: &R,
     alloc: Global,
     words: &[String],
     source: &mut S,
     sink: &mut K,
+    gate: &G,
 ) -> Status
     // Words in no form: the usage text, or a fault of the sink, or want of memory. Nothing is read.
     ensures usage { IfNone (command_of (map string_bytes words.now)) (Leaves usage result (K.held sink.old) (K.held sink.new)) }
 
     ensures unread { IfNone (command_of (map string_bytes words.now)) (Keeps (S.left source.old) (S.left source.new)) }
 
-    // A command: the outcome of the text that was read, whose answers are a safe history.
+    // A command: the outcome of the text that was read, whose answers are a safe history; of `run` that of any lawful run.
     ensures answer { IfSome (command_of (map string_bytes words.now)) (λ command. Ends command result (S.left source.old) (S.left source.new) (K.held sink.old) (K.held sink.new)) }
 
     // The headline: what was printed are answers to the lines that were read, and grants no timestamp twice.
@@ -202,7 +293,7 @@ pub fn pd_top<S: Source, K: Sink>(
             Ok(response) => write_out(&response, sink),
             Err(_) => Status::NoMemory,
         },
-        Some(command) => match respond(alloc, command, source) {
+        Some(command) => match respond(rt, alloc, command, source, gate) {
             Ok(response) => write_out(&response, sink),
             Err(Failure::ReadFault) => Status::ReadFault,
             Err(Failure::NoMemory) => Status::NoMemory,

@@ -8,10 +8,10 @@ use Rattle.pd_lines.specs.Numeral.{number_of}
 use Rattle.pd_script.specs.Asks.{asked_of, store_verb_of}
 use Rattle.pd_script.specs.Grammar.{AtFault, by_store_verb, with_request, and_event, and_line, and_number, arity, by_verb, content_of, event_of, events_from, events_of, has_bad_byte, is_passed_over, listed, numbers_of, padded, raw_content, read_places, some_event, unless, with_numbers}
 use Rattle.pd_script.specs.Formed.{IsAsked}
-use Rattle.pd_script.specs.Lawful.{AreLawful, IsFormed, IsLawful, IsLawfulScript, standing_of}
+use Rattle.pd_script.specs.Lawful.{AreLawful, IsFormed, IsLawful, IsLawfulScript, IsServed, standing_of}
 use Rattle.pd_script.specs.Places.{most, read_place}
 use Rattle.pd_script.specs.Scripts.{act_by, act_of, broken_by, client_of, driver_of, greatest, line_of, script_by, script_of, unless_broken}
-use Rattle.pd_script.specs.Table.{is_misplaced, row, verb_of}
+use Rattle.pd_script.specs.Table.{is_misplaced, known_in, row, verb_of}
 use Rattle.pd_script.specs.Words.{RawLine, raw_lines, words}
 use Rattle.pd_script.specs.declared.limits.Broken.{Broken}
 use Rattle.pd_script.specs.declared.place.Place.{Place}
@@ -19,8 +19,10 @@ use Rattle.pd_script.specs.declared.refusal.Reason.{Reason}
 use Rattle.pd_script.specs.declared.refusal.Reason.TheVariants.{BadByte, Misplaced, NoNewline, UnknownWord}
 use Rattle.pd_script.specs.declared.refusal.ScriptRefusal.TheVariants.{Fault, Limit}
 use Rattle.pd_script.specs.declared.script.Mode.{Mode}
+use Rattle.pd_script.specs.declared.script.Mode.TheVariants.{Replay, Run}
 use Rattle.pd_script.specs.declared.script.Script.{Script}
 use Rattle.pd_script.specs.declared.act.Act.{Act}
+use Rattle.pd_script.specs.declared.act.Act.TheVariants.{Ask as AskAct}
 use Rattle.pd_script.specs.declared.act.Line.{Line}
 use Rattle.pd_script.specs.declared.ask.Asked.{Asked}
 use Rattle.pd_script.specs.declared.verb.Event.{Event}
@@ -89,7 +91,7 @@ numbers_in places ws numbers is = padded_in places (unless (arity (listed places
 -- an event that was read
 abbrev IsRead : Mode → Bool → Event → Type 0
 IsRead mode first (Step verb numbers) = (is_misplaced mode first (row verb).standing ≡ false) × InRange (row verb).places numbers
-IsRead mode first (Ask driver request) = (0 < driver) × IsAsked request
+IsRead mode first (Ask driver request) = (0 < driver) × IsAsked request × (mode ≡ Replay)
 
 with_read : (mode : Mode) (first : Bool) (verb : Verb) (r : Result Numbers Reason) (e : Event) → is_misplaced mode first (row verb).standing ≡ false → ((n : Numbers) → r ≡ Ok n → InRange (row verb).places n) → with_numbers verb r ≡ Ok e → IsRead mode first e
 with_read mode first verb (Err reason) e placed range is = no_fine reason e is
@@ -99,15 +101,16 @@ placed_read : (mode : Mode) (first : Bool) (ws : List (List ℕ)) (verb : Verb) 
 placed_read mode first ws verb e true placed is = no_fine Misplaced e is
 placed_read mode first ws verb e false placed is = with_read mode first verb (numbers_of (row verb).places ws) e placed (λ n same. numbers_in (row verb).places ws n same) is
 
-request_read : (mode : Mode) (first : Bool) (r : Result Asked Reason) (e : Event) → ((a : Asked) → r ≡ Ok a → IsFine a) → with_request r ≡ Ok e → IsRead mode first e
-request_read mode first (Err reason) e fine is = no_fine reason e is
-request_read mode first (Ok a) e fine is = let one = fine a refl in subst (λ (x : Event). IsRead mode first x) (same_ok (Ask a.driver a.request) e is) (one.pos, one.asked)
+request_read : (first : Bool) (r : Result Asked Reason) (e : Event) → ((a : Asked) → r ≡ Ok a → IsFine a) → with_request r ≡ Ok e → IsRead Replay first e
+request_read first (Err reason) e fine is = no_fine reason e is
+request_read first (Ok a) e fine is = let one = fine a refl in subst (λ (x : Event). IsRead Replay first x) (same_ok (Ask a.driver a.request) e is) (one.pos, one.asked, refl)
 
-ask_read : (mode : Mode) (first : Bool) (ws : List (List ℕ)) (o : Option StoreVerb) (e : Event) → by_store_verb ws o ≡ Ok e → IsRead mode first e
-ask_read mode first ws None e is = no_fine UnknownWord e is
-ask_read mode first ws (Some verb) e is = request_read mode first (asked_of verb ws) e (λ a same. asked_ok verb ws a same) is
+ask_read : (mode : Mode) (first : Bool) (ws : List (List ℕ)) (o : Option StoreVerb) (e : Event) → by_store_verb ws (known_in mode o) ≡ Ok e → IsRead mode first e
+ask_read Run first ws o e is = no_fine UnknownWord e is
+ask_read Replay first ws None e is = no_fine UnknownWord e is
+ask_read Replay first ws (Some verb) e is = request_read first (asked_of verb ws) e (λ a same. asked_ok verb ws a same) is
 
-verb_read : (mode : Mode) (first : Bool) (ws : List (List ℕ)) (o : Option Verb) (other : Option StoreVerb) (e : Event) → by_verb mode first ws o other ≡ Ok e → IsRead mode first e
+verb_read : (mode : Mode) (first : Bool) (ws : List (List ℕ)) (o : Option Verb) (other : Option StoreVerb) (e : Event) → by_verb mode first ws o (known_in mode other) ≡ Ok e → IsRead mode first e
 verb_read mode first ws None other e is = ask_read mode first ws other e is
 verb_read mode first ws (Some verb) other e is = placed_read mode first ws verb e (is_misplaced mode first (row verb).standing) refl is
 
@@ -202,6 +205,26 @@ record IsGood (mode : Mode) (drivers clients : ℕ) (first : Bool) (act : Act) :
   placed : is_misplaced mode first (standing_of act) ≡ false
   lawful : IsLawful drivers clients act
   formed : IsFormed act
+  served : IsServed mode act
+
+served_step : (mode : Mode) (verb : Verb) (n : Numbers) → IsServed mode (act_by verb n)
+served_step Replay verb n = tt
+served_step Run Cell n = tt
+served_step Run Lead n = tt
+served_step Run Tick n = tt
+served_step Run Resign n = tt
+served_step Run Take n = tt
+served_step Run Tell n = tt
+served_step Run Hear n = tt
+served_step Run Read n = tt
+served_step Run Campaign n = tt
+served_step Run Save n = tt
+served_step Run Raise n = tt
+served_step Run Publish n = tt
+served_step Run Probe n = tt
+served_step Run Look n = tt
+served_step Run Arm n = tt
+served_step Run Draw n = tt
 
 formed_step : (verb : Verb) (n : Numbers) → IsFormed (act_by verb n)
 formed_step Cell n = tt
@@ -226,8 +249,9 @@ good_event mode drivers clients first (Step verb numbers) read most others = rec
   placed = ap (is_misplaced mode first) (same_standing verb numbers) ∙ read.0;
   lawful = lawful_act drivers clients numbers verb read.1 (most, others);
   formed = formed_step verb numbers;
+  served = served_step mode verb numbers;
 }
-good_event mode drivers clients first (Ask driver request) read most others = record { placed = refl; lawful = record { pos = read.0; low = most }; formed = read.1 }
+good_event mode drivers clients first (Ask driver request) read most others = record { placed = refl; lawful = record { pos = read.0; low = most }; formed = read.1; served = subst (λ (m : Mode). IsServed m (AskAct driver request)) (sym read.2) tt }
 
 -- all lines
 lawful_lines : (mode : Mode) (drivers clients : ℕ) (first : Bool) (events : List Numbered) → AreRead mode first events → greatest driver_of events ≤ drivers → greatest client_of events ≤ clients → AreLawful mode drivers clients first (map line_of events)
@@ -239,6 +263,10 @@ lawful_lines mode drivers clients first (e ∷ es) read most others =
 formed_lines : (mode : Mode) (first : Bool) (events : List Numbered) → AreRead mode first events → AllByRecursion (λ (line : Line). IsFormed line.act) (map line_of events)
 formed_lines mode first [] read = tt
 formed_lines mode first (e ∷ es) read = ((good_event mode (driver_of e.event) (client_of e.event) first e.event read.0 (omega arith) (omega arith)).formed, formed_lines mode false es read.1)
+
+served_lines : (mode : Mode) (first : Bool) (events : List Numbered) → AreRead mode first events → AllByRecursion (λ (line : Line). IsServed mode line.act) (map line_of events)
+served_lines mode first [] read = tt
+served_lines mode first (e ∷ es) read = ((good_event mode (driver_of e.event) (client_of e.event) first e.event read.0 (omega arith) (omega arith)).served, served_lines mode false es read.1)
 
 -- the lines, where no limit is broken
 unbroken_lawful : (mode : Mode) (events : List Numbered) (script : Script) → broken_by events ≡ None → AreRead mode true events → AreAbove 1 events → unless_broken events None ≡ Ok script → IsLawfulScript mode script
@@ -253,6 +281,7 @@ unbroken_lawful mode events script unbroken read above is =
       rise = rising_from 1 events above;
       actors = same_actors events;
       formed = All-from_recursion (λ (line : Line). IsFormed line.act) (map line_of events) (formed_lines mode true events read);
+      served = All-from_recursion (λ (line : Line). IsServed mode line.act) (map line_of events) (served_lines mode true events read);
       most_drivers = drivers_greatest events;
       most_clients = clients_greatest events;
       events = grind (arith, length-map, kept.few);

@@ -3,7 +3,7 @@ use Rattle.std.specs.Prelude.{ℕ, ◌+◌, List, [], ◌∷◌, get_or, Bool, t
 use Rattle.std.specs.List.{list_any}
 use Rattle.pd_script.specs.Asks.{asked_of, store_verb_of}
 use Rattle.pd_script.specs.Places.{read_place}
-use Rattle.pd_script.specs.Table.{is_misplaced, row, verb_of}
+use Rattle.pd_script.specs.Table.{is_misplaced, known_in, row, verb_of}
 use Rattle.pd_script.specs.Words.{RawLine, raw_lines, words}
 use Rattle.pd_script.specs.declared.ask.Asked.{Asked}
 use Rattle.pd_script.specs.declared.place.Place.{Place}
@@ -84,7 +84,7 @@ by_verb mode first ws (Some verb) other = step_of mode first verb ws
 -- what the words of a line say
 abbrev pub event_of : Mode → Bool → List (List ℕ) → Result Event Reason
 event_of mode first [] = Err UnknownWord
-event_of mode first (w ∷ ws) = by_verb mode first ws (verb_of w) (store_verb_of w)
+event_of mode first (w ∷ ws) = by_verb mode first ws (verb_of w) (known_in mode (store_verb_of w))
 
 -- the word begins with `#`
 abbrev pub is_comment : List ℕ → Bool

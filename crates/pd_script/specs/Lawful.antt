@@ -10,6 +10,7 @@ use Rattle.pd_script.specs.declared.act.Act.{Act}
 use Rattle.pd_script.specs.declared.act.Act.TheVariants.{Cell, Lead, Tick, Resign, Take, Tell, Hear, Read, Campaign, Save, Raise, Publish, Probe, Look, Arm, Draw, Ask}
 use Rattle.pd_script.specs.declared.act.Line.{Line}
 use Rattle.pd_script.specs.declared.script.Mode.{Mode}
+use Rattle.pd_script.specs.declared.script.Mode.TheVariants.{Replay, Run}
 use Rattle.pd_script.specs.declared.script.Script.{Script}
 use Rattle.pd_script.specs.declared.verb.Standing.{Standing}
 use Rattle.pd_script.specs.declared.verb.Standing.TheVariants.{Anywhere, Opening, SingleStep}
@@ -73,6 +74,12 @@ AreLawful mode drivers clients first (line ∷ lines) = (is_misplaced mode first
 abbrev pub IsFormed : Act → Type 0
 IsFormed (Ask driver request) = IsAsked request
 IsFormed _ = Unit {0}
+
+-- nothing is asked of a cluster in `run`
+abbrev pub IsServed : Mode → Act → Type 0
+IsServed Replay act = Unit {0}
+IsServed Run (Ask driver request) = ⊥
+IsServed Run _ = Unit {0}
 
 -- the store that speaks in an act, where one does
 abbrev pub speaking : Act → List ℕ
@@ -141,7 +148,8 @@ pub record AreAtMost (most : ℕ) (numbers : List ℕ) : Type 0 where
   pub all : All (Contains kept) numbers
 
 -- 1 to 7 drivers and 1 to 64 clients, the greatest that are named, and lawful lines for them; line numbers that rise from 1
--- or more, each line's actor the one of its act, what stores ask in its form; at most 65,536 lines and 256 stores that speak
+-- or more, each line's actor the one of its act, what stores ask in its form, and in `run` nothing of it; at most 65,536 lines
+-- and 256 stores that speak
 pub record IsLawfulScript (mode : Mode) (script : Script) : Type 0 where
   pub drivers : IsOneOf 7 script.drivers
   pub clients : IsOneOf 64 script.clients
@@ -150,6 +158,7 @@ pub record IsLawfulScript (mode : Mode) (script : Script) : Type 0 where
   pub rise : AllPairs (λ one later. one.number < later.number) script.lines
   pub actors : All (λ line. line.actor ≡ actor_in line.act) script.lines
   pub formed : All (λ line. IsFormed line.act) script.lines
+  pub served : All (λ line. IsServed mode line.act) script.lines
   pub most_drivers : IsGreatest (flat_map (λ line. drivers_named line.act) script.lines) script.drivers
   pub most_clients : IsGreatest (flat_map (λ line. clients_named line.act) script.lines) script.clients
   pub events : length script.lines ≤ 65536

@@ -1,6 +1,6 @@
 -- The lines of a script: the first word, what stands behind it, and where the line may stand. A line's actor is the driver or
 -- the client that it names first (own choice).
-use Rattle.std.specs.Prelude.{ℕ, List, [], ◌∷◌, codes, Option, Bool, true, false}
+use Rattle.std.specs.Prelude.{ℕ, List, [], ◌∷◌, codes, Option, None, Bool, true, false}
 use Rattle.std.specs.List.{find}
 use Rattle.std.specs.Str.{bytes_eq}
 use Rattle.pd_script.specs.declared.place.Place.TheVariants.{Driver, Client, Moment, Count, Saved, Term}
@@ -10,6 +10,7 @@ use Rattle.pd_script.specs.declared.verb.Places.{Places}
 use Rattle.pd_script.specs.declared.verb.Places.TheVariants.{One, Two, Three}
 use Rattle.pd_script.specs.declared.verb.Standing.{Standing}
 use Rattle.pd_script.specs.declared.verb.Standing.TheVariants.{Anywhere, Opening, SingleStep}
+use Rattle.pd_script.specs.declared.verb.StoreVerb.{StoreVerb}
 use Rattle.pd_script.specs.declared.verb.Verb.{Verb}
 use Rattle.pd_script.specs.declared.verb.Verb.TheVariants.{Cell, Lead, Tick, Resign, Take, Tell, Hear, Read, Campaign, Save, Raise, Publish, Probe, Look, Arm, Draw}
 
@@ -53,3 +54,8 @@ is_misplaced mode true Opening = false
 is_misplaced mode false Opening = true
 is_misplaced Replay first SingleStep = false
 is_misplaced Run first SingleStep = true
+
+-- what a store says is known in `replay` alone: `run` serves no cluster
+abbrev pub known_in : Mode → Option StoreVerb → Option StoreVerb
+known_in Replay verb = verb
+known_in Run verb = None

@@ -129,7 +129,9 @@ fn event(
 {
     match verb_of(name) {
         Some(verb) => Ok(step(mode, first, verb, rest)?),
-        None => ask(alloc, name, rest),
+        None if mode == Mode::Replay => ask(alloc, name, rest),
+        // No cluster is served on threads.
+        None => Err(LineRefusal::Fault(Reason::UnknownWord)),
     }
 }
 

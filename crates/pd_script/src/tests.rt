@@ -175,6 +175,10 @@ const RUN: &str = "\
 9 arm 1 0
 9 draw
 4 lead 1
+0 take 1 1 1
+3 hello 1 1 1 a
+3 alive
+3 beat x
 ";
 
 // The number of the reason of the first line, 0 where the text is a script.

@@ -1,0 +1,216 @@
+// The text of a run, section by section.
+ghost use Rattle.std.specs.Prelude.{◌≡◌, ◌↔◌, ◌++◌, ◌∷◌, [], IfOk, OnOk, codes, flat_map, string_bytes};
+ghost use Rattle.pd_cluster.specs.RunText.{client_reply, client_section, driver_reply, driver_section, fault_reply, lead_reply, post_line, post_lines, reply_line, run_text, tick_reply, windows_text};
+ghost use Rattle.pd_cluster.specs.History.{and_batch};
+ghost use Rattle.pd_cluster.specs.Terms.{EndsTerm};
+ghost use Rattle.pd_types.specs.declared.oracle.Seen.{Seen};
+ghost use Rattle.tso_core.specs.Laws.{learned};
+ghost use Rattle.tso_model.specs.declared.view.Setup.{Setup};
+ghost use Rattle.tso_outcome.specs.Clients.{got, seen_after};
+ghost use Rattle.tso_outcome.specs.Terms.{GivesUp};
+ghost use Rattle.tso_outcome.specs.declared.said.ClientAnswer.{ClientAnswer};
+ghost use Rattle.tso_outcome.specs.declared.said.DriverAnswer.{DriverAnswer};
+ghost use Rattle.tso_run.specs.declared.end.ClientAnswers.{ClientAnswers};
+ghost use Rattle.tso_run.specs.declared.end.DriverAnswers.{DriverAnswers};
+ghost use Rattle.tso_run.specs.Runs.{run_of};
+
+use pd_types::Window;
+use std::alloc::{AllocError, Global};
+use std::fmt;
+use tso_client::{DrawFault, PostEntry, PostWhat};
+use tso_core::Reply;
+use tso_driver::{DriverSaid, LeadReply, TickReply};
+use tso_outcome::{ClientAnswer, ClientSaid, DriverAnswer};
+use tso_run::{ClientAnswers, DriverAnswers, Left};
+
+fn lead_reply(reply: LeadReply) -> Reply
+    ensures value { result ≡ lead_reply reply }
+{
+    match reply {
+        LeadReply::Won { term, lo, hi } => Reply::Won { term, lo, hi },
+        LeadReply::Beaten { found } => Reply::Beaten { found },
+        LeadReply::Lost { found } => Reply::Lost { found },
+        LeadReply::TermsSpent => Reply::TermsSpent,
+        LeadReply::ClockRange => Reply::ClockRange,
+    }
+}
+
+fn tick_reply(reply: TickReply) -> Reply
+    ensures value { result ≡ tick_reply reply }
+{
+    match reply {
+        TickReply::Moved { next, hi } => Reply::Moved { next, hi },
+        TickReply::Idle => Reply::Idle,
+        TickReply::Lost { found } => Reply::Lost { found },
+        TickReply::ClockRange => Reply::ClockRange,
+        TickReply::NotLeading => Reply::NotLeading,
+    }
+}
+
+// What a driver's answer prints. A term ends by it where it says that the driver gave one up.
+fn driver_reply(said: DriverSaid) -> Reply
+    ensures value { result ≡ driver_reply said }
+    ensures ends { EndsTerm result ↔ GivesUp said }
+{
+    match said {
+        DriverSaid::Led { reply, .. } => lead_reply(reply),
+        DriverSaid::Ticked { reply, .. } => tick_reply(reply),
+        DriverSaid::Resigned { held: true } => Reply::Resigned,
+        DriverSaid::Resigned { held: false } => Reply::NotLeading,
+    }
+}
+
+fn fault_reply(fault: DrawFault) -> Reply
+    ensures value { result ≡ fault_reply fault }
+{
+    match fault {
+        DrawFault::NotLeader => Reply::NotLeader,
+        DrawFault::Stale { seen_term } => Reply::Stale { seen_term },
+        DrawFault::Again { at, hi, n } => Reply::Again { at, hi, n },
+    }
+}
+
+// What a client's answer prints. It tells the batch that was granted, and what the client has seen then.
+fn client_reply(said: ClientSaid) -> Reply
+    ensures value { result ≡ client_reply said }
+    ensures batch { and_batch result [] ≡ got said }
+    ensures seen { (seen : Seen) → seen_after said seen ≡ learned result seen }
+{
+    match said {
+        ClientSaid::Took { answer, .. } => match answer {
+            Ok(batch) => Reply::Got { batch },
+            Err(fault) => fault_reply(fault),
+        },
+        ClientSaid::Told { .. } => Reply::Told,
+        ClientSaid::Heard { note: Some(seen) } => Reply::Heard { seen },
+        ClientSaid::Heard { note: None } => Reply::Nothing,
+    }
+}
+
+// The line of an answer.
+fn put_reply(text: &mut String, line: u32, reply: Reply) -> Result<(), AllocError>
+    ensures text { OnOk result (string_bytes text.new ≡ string_bytes text.old ++ reply_line line reply) }
+{
+    writeln!(text, "{line} {reply}")
+}
+
+// The window's line, where it was saved.
+fn put_window(text: &mut String, window: &Window) -> Result<(), AllocError>
+    ensures text { OnOk result (string_bytes text.new ≡ string_bytes text.old ++ windows_text (window.now ∷ [])) }
+{
+    let Window {
+        term,
+        driver,
+        lo,
+        hi,
+    } = *window;
+    if lo < hi {
+        writeln!(text, "window {term} {driver} {lo} {hi}")?;
+    }
+    Ok(())
+}
+
+fn put_windows(text: &mut String, windows: &[Window]) -> Result<(), AllocError>
+    ensures text { OnOk result (string_bytes text.new ≡ string_bytes text.old ++ windows_text windows.now) }
+{
+    for window in windows {
+        put_window(text, window)?;
+    }
+    Ok(())
+}
+
+// All answers of a driver.
+fn put_driver_answers(text: &mut String, answers: &[DriverAnswer]) -> Result<(), AllocError>
+    ensures text { OnOk result (string_bytes text.new ≡ string_bytes text.old ++ flat_map (λ (a : DriverAnswer). reply_line a.line (driver_reply a.said)) answers.now) }
+{
+    for answer in answers {
+        put_reply(text, answer.line, driver_reply(answer.said))?;
+    }
+    Ok(())
+}
+
+// All answers of a client.
+fn put_client_answers(text: &mut String, answers: &[ClientAnswer]) -> Result<(), AllocError>
+    ensures text { OnOk result (string_bytes text.new ≡ string_bytes text.old ++ flat_map (λ (a : ClientAnswer). reply_line a.line (client_reply a.said)) answers.now) }
+{
+    for answer in answers {
+        put_reply(text, answer.line, client_reply(answer.said))?;
+    }
+    Ok(())
+}
+
+// A driver's answers behind its head, where it has some.
+fn put_driver(text: &mut String, driver: &DriverAnswers) -> Result<(), AllocError>
+    ensures text { OnOk result (string_bytes text.new ≡ string_bytes text.old ++ driver_section driver.now.number driver.now.answers.items) }
+{
+    if driver.answers.is_empty() {
+        return Ok(());
+    }
+    writeln!(text, "driver {}", driver.number)?;
+    put_driver_answers(text, &driver.answers)
+}
+
+// A client's answers behind its head, where it has some.
+fn put_client(text: &mut String, client: &ClientAnswers) -> Result<(), AllocError>
+    ensures text { OnOk result (string_bytes text.new ≡ string_bytes text.old ++ client_section client.now.number client.now.answers.items) }
+{
+    if client.answers.is_empty() {
+        return Ok(());
+    }
+    writeln!(text, "client {}", client.number)?;
+    put_client_answers(text, &client.answers)
+}
+
+fn put_drivers(text: &mut String, drivers: &[DriverAnswers]) -> Result<(), AllocError>
+    ensures text { OnOk result (string_bytes text.new ≡ string_bytes text.old ++ flat_map (λ (d : DriverAnswers). driver_section d.number d.answers.items) drivers.now) }
+{
+    for driver in drivers {
+        put_driver(text, driver)?;
+    }
+    Ok(())
+}
+
+fn put_clients(text: &mut String, clients: &[ClientAnswers]) -> Result<(), AllocError>
+    ensures text { OnOk result (string_bytes text.new ≡ string_bytes text.old ++ flat_map (λ (c : ClientAnswers). client_section c.number c.answers.items) clients.now) }
+{
+    for client in clients {
+        put_client(text, client)?;
+    }
+    Ok(())
+}
+
+// An entry of the post, with its number in the journal.
+fn put_entry(text: &mut String, n: u64, entry: &PostEntry) -> Result<(), AllocError>
+    ensures text { OnOk result (string_bytes text.new ≡ string_bytes text.old ++ post_line n entry.now) }
+{
+    let line = entry.line;
+    match entry.what {
+        PostWhat::Told { .. } => writeln!(text, "{n} line {line} told"),
+        PostWhat::Heard { seen } => {
+            writeln!(text, "{n} line {line} heard {} {}", seen.term, seen.last)
+        }
+        PostWhat::Nothing => writeln!(text, "{n} line {line} nothing"),
+    }
+}
+
+fn put_post(text: &mut String, entries: &[PostEntry]) -> Result<(), AllocError>
+    ensures text { OnOk result (string_bytes text.new ≡ string_bytes text.old ++ codes "post\n" ++ post_lines 1 entries.now) }
+{
+    text.push_str("post\n")?;
+    for (i, entry) in entries.iter().enumerate() {
+        put_entry(text, i as u64 + 1, entry)?;
+    }
+    Ok(())
+}
+
+/// The text of what a run left.
+pub fn run_text(alloc: Global, left: &Left) -> Result<String, AllocError>
+    ensures text { IfOk result (λ text. (k : Setup) → string_bytes text ≡ run_text (run_of k left.now)) }
+{
+    let mut text = String::new(alloc);
+    put_windows(&mut text, left.ledger.windows().as_slice())?;
+    put_drivers(&mut text, &left.drivers)?;
+    put_clients(&mut text, &left.clients)?;
+    put_post(&mut text, left.post.as_slice())?;
+    Ok(text)
+}
