@@ -16,16 +16,14 @@ struct Words<'a> {
 impl<'a> Words<'a> {
     fn of(alloc: Global, line: &'a str) -> Result<Words<'a>, Fail> {
         let mut numbers = Vec::new(alloc);
-        let mut first = "";
         for word in line.split(' ') {
             if let Ok(number) = word.parse::<u64>() {
                 numbers.push(number)?;
-            } else if first.is_empty() {
-                first = word;
             }
         }
+        let mut others = line.split(' ').filter(|word| word.parse::<u64>().is_err());
         Ok(Words {
-            word: first,
+            word: others.next().unwrap_or(""),
             numbers,
         })
     }
@@ -126,7 +124,7 @@ fn section_of(word: &str) -> u8 {
 }
 
 // The answer on this line, whose actor's last one is given.
-fn answer<'a>(
+fn read_answer<'a>(
     alloc: Global,
     script: &'a str,
     said: Words<'a>,
@@ -182,7 +180,7 @@ impl<'a> Printed<'a> {
                 let what = line.split(' ').nth(3).unwrap_or("");
                 post.push(Entry { words, what })?;
             } else {
-                let said = answer(alloc, script, words, head.0, head.1, answers.last())?;
+                let said = read_answer(alloc, script, words, head.0, head.1, answers.last())?;
                 answers.push(said)?;
             }
         }
