@@ -22,7 +22,7 @@ use Rattle.tso_model.proofs.Growth.{latest_stands, own_number}
 use Rattle.tso_model.proofs.DrawB.{in_hand, hand_driver}
 use Rattle.tso_model.proofs.Learned.{cell_rises}
 use Rattle.tso_model.proofs.Ledgers.{draw_list}
-use Rattle.tso_core.specs.Seat.{CellFits, HeldFits, HandFits, Suits, IsReady}
+use Rattle.tso_core.specs.Ready.{CellFits, HeldFits, HandFits, Suits, IsReady}
 
 -- batches by term never fall in term
 climb_least : (low t : ℕ) (bs : List Batch) (high u : ℕ) → Climb low t bs high u → (i : ℕ) (d : Batch) → i < length bs → t ≤ (get_or bs i d).term

@@ -3,7 +3,7 @@ use Rattle.std.proofs.Common.{◌≡◌, ℕ, ◌<◌, ◌≤◌, false, length}
 use Rattle.tso_model.specs.declared.step.WordStep.{WordStep}
 use Rattle.tso_model.specs.Steps.{May}
 use Rattle.tso_model.specs.Moves.{spent_view}
-use Rattle.tso_core.specs.Seat.{IsReady}
+use Rattle.tso_core.specs.Ready.{IsReady}
 use Rattle.tso_core.specs.Whole.{Whole, view_at}
 use Rattle.tso_core.specs.Sound.{IsSound}
 use Rattle.tso_core.proofs.Bounds.{ready_in}

@@ -133,7 +133,7 @@ module _ (w : Whole) (s : IsSound w) (d : ℕ) (has : HasDriver w.setup d) where
   driver_sees ToDraw e client = refl
 
   driver_calm : (kind : Kind) → same_due (turn_at w d).due (due_for kind) ≡ true → Calm w (driver_step w d (turn_at w d).due kind).after
-  driver_calm kind due = let kept = driver_keeps w s d has.pos has.low kind (is_due (turn_at w d).due (due_for kind) due) in record { sound = kept.sound; setup = kept.setup; seens = driver_sees kind }
+  driver_calm kind due = let kept = driver_keeps w s d has.pos has.low kind (is_due (turn_at w d).due (due_for kind) due) (turn_at w d).due in record { sound = kept.sound; setup = kept.setup; seens = driver_sees kind }
 
   finished_calm : Calm w (finished d w)
   finished_calm = calm_whole w (same_due (turn_at w d).due Publish) (publish_of w d).after w (λ due. driver_calm ToPublish due) (λ _. still w s)
@@ -368,7 +368,7 @@ module _ (w : Whole) (s : IsSound w) where
   step_tells : (actor : Actor) (kind : Kind) → HasActor w.setup actor → IsAsked w.setup kind → Tells w (driver_of actor) (client_of actor) (step_of w actor kind)
   step_tells (Driver d) kind has asked = tells_calm w d (step_of w (Driver d) kind)
       (calm_cond w (same_due (due_for kind) (turn_at w d).due) (driver_step w d (turn_at w d).due kind) (out_of_turn w (turn_at w d).due)
-      (λ due. let kept = driver_keeps w s d has.pos has.low kind (sym (is_due (due_for kind) (turn_at w d).due due)) in record { sound = kept.sound; setup = kept.setup; seens = driver_sees w s d has kind }) (λ _. still w s))
+      (λ due. let kept = driver_keeps w s d has.pos has.low kind (sym (is_due (due_for kind) (turn_at w d).due due)) (turn_at w d).due in record { sound = kept.sound; setup = kept.setup; seens = driver_sees w s d has kind }) (λ _. still w s))
       (step_shows w s (Driver d) kind has) ((batches_grow w).step (Driver d) kind)
       (λ seen. fair_cond (same_due (due_for kind) (turn_at w d).due) (driver_step w d (turn_at w d).due kind) (out_of_turn w (turn_at w d).due) seen
       (λ _. quiet_fair (driver_step w d (turn_at w d).due kind).reply seen (driver_quiet w d kind).silent) (λ _. tt))

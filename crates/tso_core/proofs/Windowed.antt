@@ -19,7 +19,7 @@ use Rattle.tso_model.specs.Ledger.{longer_last, windows_after}
 use Rattle.tso_model.specs.Steps.{held, held_or, hand, batch_of, new_claim, saved_window}
 use Rattle.tso_model.proofs.Basics.{by_bool, by_eq, by_lt, at_some}
 use Rattle.tso_model.proofs.Records.{longer_push}
-use Rattle.tso_core.specs.declared.decided.Decided.{Decided}
+use Rattle.tso_core.specs.declared.plan.Decided.{Decided}
 use Rattle.tso_core.specs.declared.reply.Due.{Due}
 use Rattle.tso_core.specs.declared.reply.Due.TheVariants.{Rest, Campaign, Save, Raise, Publish, Arm, Draw}
 use Rattle.tso_core.specs.declared.reply.Kind.{Kind}

@@ -12,13 +12,15 @@ use Rattle.tso_model.specs.declared.step.WordStep.TheVariants.{LoadCell, ClaimTe
 use Rattle.tso_model.specs.Words.{packed, cell_of, cell_word, passes}
 use Rattle.tso_model.specs.Steps.{held, hand, batch_of}
 use Rattle.tso_core.specs.declared.turn.Turn.{Turn}
-use Rattle.tso_core.specs.declared.decided.Decided.{Decided}
+use Rattle.tso_core.specs.declared.plan.Decided.{Decided}
 use Rattle.tso_core.specs.declared.reply.Due.{Due}
 use Rattle.tso_core.specs.declared.reply.Due.TheVariants.{Rest, Campaign, Save, Raise, Publish, Arm, Draw}
 use Rattle.tso_core.specs.declared.reply.Kind.{Kind}
 use Rattle.tso_core.specs.declared.reply.Kind.TheVariants.{Read, Campaign as ToCampaign, Save as ToSave, Probe, Raise as ToRaise, Publish as ToPublish, Resign, Look, Arm as ToArm, Draw as ToDraw}
 use Rattle.tso_core.specs.declared.reply.Reply.{Reply}
 use Rattle.tso_core.specs.declared.reply.Reply.TheVariants.{Beaten, Lost, TermsSpent, ClockRange, Idle, NotLeading, Resigned, Got, Again, NotLeader, Stale, OutOfTurn, CellRead, Claimed, Saved, Raised, Probed, Published, Looked, Armed}
+use Rattle.tso_core.specs.declared.done.Done.{Done}
+use Rattle.tso_core.specs.Done.{done_of, reply_of, follow, step_due}
 use Rattle.tso_core.specs.Due.{same_due, due_for, at_rest}
 use Rattle.tso_model.specs.Plan.{end_of, past_clock, lead_next, tick_next, saves_for}
 use Rattle.tso_core.specs.Whole.{Whole, place_of_client, view_at, turn_at, found_by, made, turned}
@@ -126,6 +128,14 @@ abbrev pub resign_of : Whole → ℕ → Stepped
 resign_of w d =
     if (view_at w d).holds then decided (made w d ClearLimit) d (record { reply = Resigned; turn = at_rest })
     else record { reply = NotLeading; after = w }
+
+-- the driver makes the step that is due, and goes on as what it did decides
+abbrev pub went_on : Whole → ℕ → Stepped
+went_on w d =
+    let turn : Turn = turn_at w d in
+    let step : WordStep = step_due turn.due turn in
+    let done : Done = done_of step (found_by w d step) (view_at w d) in
+    decided (made w d step) d (record { reply = reply_of done; turn = follow turn done })
 
 -- what a limit word tells a client that has seen this
 abbrev pub looked_reply : ℕ → Seen → Reply
