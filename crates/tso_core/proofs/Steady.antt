@@ -56,21 +56,13 @@ module _ (w : Whole) (s : IsSound w) where
     sound = resign_sound w s d pos low;
     setup = setup_cond w.setup (view_at w d).holds (decided (made w d ClearLimit) d (record { reply = Resigned; turn = at_rest })) (record { reply = NotLeading; after = w }) refl refl;
   }
-  driver_keeps d pos low (Look e) due at = refuses at
-  driver_keeps d pos low (Arm n) due at = refuses at
-  driver_keeps d pos low Draw due at = refuses at
+  driver_keeps d pos low kind due at = refuses at
 
   pub client_keeps : (c : ℕ) → 0 < c → c ≤ w.setup.clients → (kind : Kind) → IsAsked w.setup kind → due_at w c ≡ due_for kind → (at : Due) → Keeps w (client_step w c at kind)
   client_keeps c pos low (Look d) asked due at = record { sound = look_sound w s c pos low d asked.pos asked.low due; setup = refl }
   client_keeps c pos low (Arm n) asked due at = record { sound = arm_sound w s c pos low n asked.some (omega (arith, asked.most)) due; setup = refl }
   client_keeps c pos low Draw asked due at = record { sound = draw_sound w s c pos low due; setup = refl }
-  client_keeps c pos low (Read now) asked due at = refuses at
-  client_keeps c pos low Campaign asked due at = refuses at
-  client_keeps c pos low Save asked due at = refuses at
-  client_keeps c pos low (Probe now) asked due at = refuses at
-  client_keeps c pos low Raise asked due at = refuses at
-  client_keeps c pos low Publish asked due at = refuses at
-  client_keeps c pos low Resign asked due at = refuses at
+  client_keeps c pos low kind asked due at = refuses at
 
   pub step_keeps : (actor : Actor) (kind : Kind) → HasActor w.setup actor → IsAsked w.setup kind → Keeps w (step_of w actor kind)
   step_keeps (Driver d) kind has asked = keeps_cond w (same_due (due_for kind) (turn_at w d).due) (driver_step w d (turn_at w d).due kind) (out_of_turn w (turn_at w d).due)

@@ -4,9 +4,13 @@ use Rattle.tso_core.specs.declared.machine.Machine.{Machine}
 use Rattle.tso_core.specs.declared.post.Post.{Post}
 use Rattle.tso_core.specs.declared.reply.Due.{Due}
 use Rattle.tso_core.specs.declared.reply.Reply.{Reply}
+use Rattle.tso_core.specs.declared.turn.Turn.{Turn}
 use Rattle.tso_core.specs.Seated.{view_of, no_seat}
-use Rattle.tso_core.specs.Whole.{Whole, turn_at}
-use Rattle.tso_core.specs.Steps.{Stepped}
+use Rattle.tso_core.specs.Whole.{Whole, view_at, turn_at, found_by, made}
+use Rattle.tso_core.specs.Steps.{Stepped, decided}
+use Rattle.tso_model.specs.declared.step.WordStep.{WordStep}
+use Rattle.tso_core.specs.declared.done.Done.{Done}
+use Rattle.tso_core.specs.Done.{done_of, reply_of, follow, step_due}
 use Rattle.tso_core.specs.Rows.{due_at}
 use Rattle.tso_core.specs.Sound.{IsSound, HasDriver, HasClient}
 
@@ -46,3 +50,11 @@ pub record ClientAt (next : Due) (c : ℕ) (m : Machine) : Type 0 where
 pub record Answers (said : Reply) (m : Machine) (r : Stepped) : Type 0 where
   pub reply : said ≡ r.reply
   pub after : whole_of m ≡ r.after
+
+-- the driver makes the step that is due, and goes on as what it did decides
+abbrev pub went_on : Whole → ℕ → Stepped
+went_on w d =
+    let turn : Turn = turn_at w d in
+    let step : WordStep = step_due turn.due turn in
+    let done : Done = done_of step (found_by w d step) (view_at w d) in
+    decided (made w d step) d (record { reply = reply_of done; turn = follow turn done })

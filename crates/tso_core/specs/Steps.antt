@@ -19,8 +19,6 @@ use Rattle.tso_core.specs.declared.reply.Kind.{Kind}
 use Rattle.tso_core.specs.declared.reply.Kind.TheVariants.{Read, Campaign as ToCampaign, Save as ToSave, Probe, Raise as ToRaise, Publish as ToPublish, Resign, Look, Arm as ToArm, Draw as ToDraw}
 use Rattle.tso_core.specs.declared.reply.Reply.{Reply}
 use Rattle.tso_core.specs.declared.reply.Reply.TheVariants.{Beaten, Lost, TermsSpent, ClockRange, Idle, NotLeading, Resigned, Got, Again, NotLeader, Stale, OutOfTurn, CellRead, Claimed, Saved, Raised, Probed, Published, Looked, Armed}
-use Rattle.tso_core.specs.declared.done.Done.{Done}
-use Rattle.tso_core.specs.Done.{done_of, reply_of, follow, step_due}
 use Rattle.tso_core.specs.Due.{same_due, due_for, at_rest}
 use Rattle.tso_model.specs.Plan.{end_of, past_clock, lead_next, tick_next, saves_for}
 use Rattle.tso_core.specs.Whole.{Whole, place_of_client, view_at, turn_at, found_by, made, turned}
@@ -129,14 +127,6 @@ resign_of w d =
     if (view_at w d).holds then decided (made w d ClearLimit) d (record { reply = Resigned; turn = at_rest })
     else record { reply = NotLeading; after = w }
 
--- the driver makes the step that is due, and goes on as what it did decides
-abbrev pub went_on : Whole → ℕ → Stepped
-went_on w d =
-    let turn : Turn = turn_at w d in
-    let step : WordStep = step_due turn.due turn in
-    let done : Done = done_of step (found_by w d step) (view_at w d) in
-    decided (made w d step) d (record { reply = reply_of done; turn = follow turn done })
-
 -- what a limit word tells a client that has seen this
 abbrev pub looked_reply : ℕ → Seen → Reply
 looked_reply word seen =
@@ -194,22 +184,14 @@ driver_step w d due (Probe now) = probe_of w d now
 driver_step w d due ToRaise = raise_of w d
 driver_step w d due ToPublish = publish_of w d
 driver_step w d due Resign = resign_of w d
-driver_step w d due (Look e) = out_of_turn w due
-driver_step w d due (ToArm n) = out_of_turn w due
-driver_step w d due ToDraw = out_of_turn w due
+driver_step w d due kind = out_of_turn w due
 
 -- the step of a client that is at this due
 abbrev pub client_step : Whole → ℕ → Due → Kind → Stepped
 client_step w c due (Look d) = look_of w c d
 client_step w c due (ToArm n) = arm_of w c n
 client_step w c due ToDraw = draw_of w c
-client_step w c due (Read now) = out_of_turn w due
-client_step w c due ToCampaign = out_of_turn w due
-client_step w c due ToSave = out_of_turn w due
-client_step w c due (Probe now) = out_of_turn w due
-client_step w c due ToRaise = out_of_turn w due
-client_step w c due ToPublish = out_of_turn w due
-client_step w c due Resign = out_of_turn w due
+client_step w c due kind = out_of_turn w due
 
 -- one step of any actor: what it is, where it is next for that actor, else nothing
 abbrev pub step_of : Whole → Actor → Kind → Stepped

@@ -49,7 +49,8 @@ impl Machine {
         self.run.reserve(n)
     }
 
-    /// Makes the step of the seat at this place.
+    /// Makes the step of the seat at this place: the word is found and written, the seat learns of it,
+    /// and the run keeps what was done.
     pub fn make(&mut self, id: usize, step: WordStep) -> Made
         requires sound { IsSound (whole_of self.old) }
         requires may { MayMake (whole_of self.old) id step }
@@ -59,7 +60,13 @@ impl Machine {
         ensures after { whole_of self.new ≡ made (whole_of self.old) id step }
         ensures room { room_at self.new id ≡ room_at self.old id - 1 }
     {
-        make_step(&mut self.words, &mut self.seats[id], &mut self.run, step)
+        let seat = &mut self.seats[id];
+        let place = seat.place(step);
+        let found = self.words[place];
+        self.words[place] = seat.written(step, found);
+        let done = seat.make(step, found);
+        self.run.keep(done);
+        Made { found, done }
     }
 
     /// The client's place among the seats.
@@ -108,23 +115,4 @@ impl Machine {
     {
         self.due(Actor::Client(client)).is(due)
     }
-}
-
-// The word is found and written, the seat learns of it, and the run keeps what was done.
-fn make_step(words: &mut Vec<u64>, seat: &mut Seat, run: &mut Run, step: WordStep) -> Made
-    requires ready { IsReady step words.old.items run.old.batches seat.old.view }
-    requires seat { 0 < seat.old.spare }
-    requires run { 0 < run.old.spare }
-    ensures found { result.found ≡ slice_index words.old.items (word_of step seat.old.view) }
-    ensures done { result.done ≡ done_of step result.found seat.old.view }
-    ensures words { words.new.items ≡ slice_set words.old.items (word_of step seat.old.view) (word_after step seat.old.view result.found) }
-    ensures seat { seat.new ≡ seat_after step result.found seat.old }
-    ensures run { run.new ≡ run_after result.done run.old }
-{
-    let place = seat.place(step);
-    let found = words[place];
-    words[place] = seat.written(step, found);
-    let done = seat.make(step, found);
-    run.keep(done);
-    Made { found, done }
 }

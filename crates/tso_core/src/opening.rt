@@ -89,11 +89,7 @@ fn opening_turns(alloc: Global, drivers: u8) -> Result<Vec<Turn>, NoMemory>
     requires few { drivers ≤ 7 }
     ensures turns { IfOk result (λ turns. turns.items ≡ replicate (drivers + 1) at_rest) }
 {
-    let mut turns = Vec::new(alloc);
-    for _driver in 0..drivers + 1 {
-        turns.push(Turn::rest())?;
-    }
-    Ok(turns)
+    Ok(vec![in alloc; Turn::rest(); drivers as usize + 1]?)
 }
 
 // The first post is nobody's.

@@ -91,16 +91,8 @@ impl Run {
             Done::Claimed { window } => self.windows.push_reserved(window),
             Done::Saved { hi } => lengthen(&mut self.windows, hi),
             Done::Granted { batch } => insert(&mut self.batches, batch),
-            Done::Read { .. } => {}
-            Done::Beaten { .. } => {}
-            Done::Lost { .. } => {}
-            Done::Raised { .. } => {}
-            Done::Published { .. } => {}
-            Done::NoLimit => {}
-            Done::Stale { .. } => {}
-            Done::Looked { .. } => {}
-            Done::Armed { .. } => {}
-            Done::Refused { .. } => {}
+            // No other step claims, saves or draws.
+            _ => {}
         }
     }
 }

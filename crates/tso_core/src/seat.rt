@@ -201,15 +201,11 @@ impl Seat {
     {
         let own = 2 * self.driver as usize;
         match step {
-            WordStep::LoadCell => 0,
-            WordStep::ClaimTerm => 0,
-            WordStep::SaveEnd { .. } => 0,
+            WordStep::LoadCell | WordStep::ClaimTerm | WordStep::SaveEnd { .. } => 0,
             WordStep::RaiseCursor { .. } => own,
-            WordStep::StoreLimit => own.saturating_sub(1),
-            WordStep::ClearLimit => own.saturating_sub(1),
+            WordStep::StoreLimit | WordStep::ClearLimit => own.saturating_sub(1),
             WordStep::LoadLimit { driver } => (2 * driver as usize).saturating_sub(1),
-            WordStep::ArmCount { .. } => 2 * self.in_hand().driver as usize,
-            WordStep::AddArmed => 2 * self.in_hand().driver as usize,
+            WordStep::ArmCount { .. } | WordStep::AddArmed => 2 * self.in_hand().driver as usize,
         }
     }
 
@@ -237,8 +233,7 @@ impl Seat {
             WordStep::RaiseCursor { at } => found.max(at),
             WordStep::StoreLimit => self.held_word(),
             WordStep::ClearLimit => 0,
-            WordStep::LoadLimit { .. } => found,
-            WordStep::ArmCount { .. } => found,
+            WordStep::LoadLimit { .. } | WordStep::ArmCount { .. } => found,
             WordStep::AddArmed => found.wrapping_add(self.armed),
         }
     }

@@ -4,9 +4,9 @@ ghost use Rattle.tso_core.specs.declared.reply.Due.TheVariants.{Rest};
 ghost use Rattle.tso_core.specs.declared.reply.Reply.TheVariants.{OutOfTurn};
 ghost use Rattle.tso_core.specs.Asked.{IsAsked};
 ghost use Rattle.tso_core.specs.Due.{due_for};
-ghost use Rattle.tso_core.specs.Machine.{whole_of, room_at, DriverAt, ClientAt, Answers};
+ghost use Rattle.tso_core.specs.Machine.{whole_of, room_at, went_on, DriverAt, ClientAt, Answers};
 ghost use Rattle.tso_core.specs.Sound.{IsSound};
-ghost use Rattle.tso_core.specs.Steps.{driver_step, client_step, went_on, read_of, probe_of, resign_of};
+ghost use Rattle.tso_core.specs.Steps.{driver_step, client_step, read_of, probe_of, resign_of};
 ghost use Rattle.tso_core.specs.Whole.{place_of_client, turn_at};
 
 use crate::machine::Machine;
@@ -32,9 +32,7 @@ impl Machine {
             Kind::Save => self.go_on(driver),
             Kind::Raise => self.go_on(driver),
             Kind::Publish => self.go_on(driver),
-            Kind::Look { .. } => out_of_turn(kind),
-            Kind::Arm { .. } => out_of_turn(kind),
-            Kind::Draw => out_of_turn(kind),
+            Kind::Look { .. } | Kind::Arm { .. } | Kind::Draw => out_of_turn(kind),
         }
     }
 
@@ -114,13 +112,10 @@ impl Machine {
             Kind::Look { driver } => self.make(id, WordStep::LoadLimit { driver }).done.reply(),
             Kind::Arm { n } => self.make(id, WordStep::ArmCount { n }).done.reply(),
             Kind::Draw => self.make(id, WordStep::AddArmed).done.reply(),
-            Kind::Read { .. } => out_of_turn(kind),
-            Kind::Campaign => out_of_turn(kind),
-            Kind::Save => out_of_turn(kind),
-            Kind::Probe { .. } => out_of_turn(kind),
-            Kind::Raise => out_of_turn(kind),
-            Kind::Publish => out_of_turn(kind),
-            Kind::Resign => out_of_turn(kind),
+            Kind::Read { .. } | Kind::Campaign | Kind::Save | Kind::Probe { .. } => out_of_turn(
+                kind,
+            ),
+            Kind::Raise | Kind::Publish | Kind::Resign => out_of_turn(kind),
         }
     }
 }

@@ -52,9 +52,7 @@ impl Turn {
                     WordStep::ClearLimit
                 }
             }
-            Due::Rest => WordStep::LoadCell,
-            Due::Arm => WordStep::LoadCell,
-            Due::Draw => WordStep::LoadCell,
+            Due::Rest | Due::Arm | Due::Draw => WordStep::LoadCell,
         }
     }
 
@@ -81,15 +79,9 @@ impl Turn {
                 }
             }
             Done::Lost { .. } => Turn::to_publish(false),
-            Done::Read { .. } => Turn::rest(),
-            Done::Beaten { .. } => Turn::rest(),
-            Done::Published { .. } => Turn::rest(),
-            Done::NoLimit => Turn::rest(),
-            Done::Stale { .. } => Turn::rest(),
-            Done::Looked { .. } => Turn::rest(),
-            Done::Armed { .. } => Turn::rest(),
-            Done::Refused { .. } => Turn::rest(),
-            Done::Granted { .. } => Turn::rest(),
+            Done::Read { .. } | Done::Beaten { .. } | Done::Published { .. } => Turn::rest(),
+            // The steps of a client leave every driver at rest.
+            _ => Turn::rest(),
         }
     }
 
