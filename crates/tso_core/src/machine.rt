@@ -1,15 +1,11 @@
 // The oracle in memory, and one atomic step of it.
-ghost use Rattle.std.specs.Prelude.{◌≡◌, ◌-◌, ◌<◌, ◌≤◌, length, slice_index, slice_set, OnOk};
-ghost use Rattle.tso_model.specs.Steps.{word_of, word_after};
-ghost use Rattle.tso_core.specs.Done.{done_of};
-ghost use Rattle.tso_core.specs.Machine.{whole_of, room_at};
-ghost use Rattle.tso_core.specs.Ran.{run_after};
-ghost use Rattle.tso_core.specs.Ready.{IsReady};
-ghost use Rattle.tso_core.specs.Seated.{seat_after};
-ghost use Rattle.tso_core.specs.Sound.{IsSound, MayMake, HasDriver, HasClient};
+ghost use Rattle.std.specs.Prelude.{◌≡◌, ◌-◌, ◌<◌, ◌≤◌, length, OnOk};
 ghost use Rattle.tso_core.specs.Asked.{HasActor};
+ghost use Rattle.tso_core.specs.Done.{done_of};
 ghost use Rattle.tso_core.specs.Due.{same_due};
+ghost use Rattle.tso_core.specs.Machine.{whole_of, room_at};
 ghost use Rattle.tso_core.specs.Rows.{due_at};
+ghost use Rattle.tso_core.specs.Sound.{IsSound, MayMake, HasDriver, HasClient};
 ghost use Rattle.tso_core.specs.Steps.{due_of};
 ghost use Rattle.tso_core.specs.Whole.{place_of_client, view_at, turn_at, found_by, made};
 

@@ -1,5 +1,5 @@
 // Notes between clients.
-ghost use Rattle.std.specs.Prelude.{◌≡◌, ◌<◌, [], ◌∷◌, drop, MatchOption, OnOk, OnErr};
+ghost use Rattle.std.specs.Prelude.{◌≡◌, ◌<◌, OnOk, OnErr};
 ghost use Rattle.tso_core.specs.declared.reply.Due.TheVariants.{Rest};
 ghost use Rattle.tso_core.specs.declared.reply.Reply.TheVariants.{Heard};
 ghost use Rattle.tso_core.specs.Machine.{whole_of, room_at, ClientAt, Answers};

@@ -1,5 +1,5 @@
 // A new oracle in memory.
-ghost use Rattle.std.specs.Prelude.{◌≡◌, ℕ, ◌+◌, ◌<◌, ◌≤◌, ◌^◌, List, [], ◌++◌, map, replicate, IfOk, OnOk};
+ghost use Rattle.std.specs.Prelude.{◌≡◌, ◌+◌, ◌<◌, ◌≤◌, [], ◌++◌, map, replicate, IfOk, OnOk};
 ghost use Rattle.tso_model.specs.Moves.{numbers_from, first_words};
 ghost use Rattle.tso_model.specs.Sound.{IsSetup};
 ghost use Rattle.tso_core.specs.Due.{at_rest};

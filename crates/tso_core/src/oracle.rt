@@ -1,6 +1,5 @@
 // The oracle as its callers see it.
-ghost use Rattle.std.specs.Prelude.{◌≡◌, ℕ, ◌<◌, ◌≤◌, List, [], ◌∷◌, IfOk, OnOk, OnErr};
-ghost use Rattle.tso_model.specs.Words.{opening_claim};
+ghost use Rattle.std.specs.Prelude.{◌≡◌, ◌<◌, IfOk, OnOk, OnErr};
 ghost use Rattle.tso_model.specs.Sound.{IsSetup};
 ghost use Rattle.tso_core.specs.Steps.{step_of};
 ghost use Rattle.tso_core.specs.Rows.{lead_of, tick_of, resigned_of, take_of};

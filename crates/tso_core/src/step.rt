@@ -112,10 +112,8 @@ impl Machine {
             Kind::Look { driver } => self.make(id, WordStep::LoadLimit { driver }).done.reply(),
             Kind::Arm { n } => self.make(id, WordStep::ArmCount { n }).done.reply(),
             Kind::Draw => self.make(id, WordStep::AddArmed).done.reply(),
-            Kind::Read { .. } | Kind::Campaign | Kind::Save | Kind::Probe { .. } => out_of_turn(
-                kind,
-            ),
-            Kind::Raise | Kind::Publish | Kind::Resign => out_of_turn(kind),
+            // All other steps are a driver's.
+            _ => out_of_turn(kind),
         }
     }
 }
