@@ -11,7 +11,7 @@ use Rattle.tso_model.specs.declared.entries.Claim.{Claim}
 use Rattle.tso_model.specs.declared.view.View.{View}
 use Rattle.tso_model.specs.declared.view.Setup.{Setup}
 use Rattle.tso_model.specs.declared.step.WordStep.{WordStep}
-use Rattle.tso_model.specs.declared.step.WordStep.TheVariants.{LoadCell, ClaimTerm, SaveEnd, RaiseCursor, StoreLimit, ClearLimit, LoadLimit, ArmCount, AddArmed}
+use Rattle.tso_model.specs.declared.step.WordStep.TheVariants.{ClaimTerm, SaveEnd, RaiseCursor, StoreLimit, ClearLimit, LoadLimit, ArmCount, AddArmed}
 use Rattle.tso_model.specs.Words.{limit_at, cursor_at, opening_claim}
 use Rattle.tso_model.specs.History.{History, added_by}
 use Rattle.tso_model.specs.Steps.{May, word_of, held_or, hand, HasHand}
@@ -22,7 +22,7 @@ use Rattle.tso_model.proofs.Growth.{latest_stands, own_number}
 use Rattle.tso_model.proofs.DrawB.{in_hand, hand_driver}
 use Rattle.tso_model.proofs.Learned.{cell_rises}
 use Rattle.tso_model.proofs.Ledgers.{draw_list}
-use Rattle.tso_core.specs.Seat.{CellFits, HeldFits, HandFits, Suits, IsReady}
+use Rattle.tso_core.specs.Ready.{CellFits, HeldFits, HandFits, Suits, IsReady}
 
 -- batches by term never fall in term
 climb_least : (low t : ℕ) (bs : List Batch) (high u : ℕ) → Climb low t bs high u → (i : ℕ) (d : Batch) → i < length bs → t ≤ (get_or bs i d).term
@@ -84,37 +84,30 @@ module _ (k : Setup) (words : List ℕ) (views : List View) (h : History) (a : P
     own_low pos = own_number k words views h id v a at pos
 
     place_of : (step : WordStep) → May k step v → word_of step v < length words
-    place_of LoadCell may = omega (arith, a.wide)
-    place_of ClaimTerm may = omega (arith, a.wide)
-    place_of (SaveEnd hi) may = omega (arith, a.wide)
     place_of (RaiseCursor n) may = omega (arith, a.wide, own_low may.0)
     place_of StoreLimit may = omega (arith, a.wide, own_low may.0)
     place_of ClearLimit may = omega (arith, a.wide, own_low may)
     place_of (LoadLimit d) may = omega (arith, a.wide, may.3)
     place_of (ArmCount n) may = omega (arith, a.wide, (hand_from may.1).2)
     place_of AddArmed may = omega (arith, a.wide, (hand_from may.1).2)
+    place_of step may = omega (arith, a.wide)
 
     found_of : (step : WordStep) → May k step v → slice_index words (word_of step v) < 2 ^ 63 + 2 ^ 26
-    found_of LoadCell may = omega (arith, (cell_rises k words views h id v a at live).0)
-    found_of ClaimTerm may = omega (arith, (cell_rises k words views h id v a at live).0)
-    found_of (SaveEnd hi) may = omega (arith, (cell_rises k words views h id v a at live).0)
     found_of (RaiseCursor n) may = omega (arith, cursor_fits v.driver may.0 (own_low may.0))
     found_of StoreLimit may = omega (arith, limit_fits v.driver may.0 (own_low may.0))
     found_of ClearLimit may = omega (arith, limit_fits v.driver may (own_low may))
     found_of (LoadLimit d) may = omega (arith, limit_fits d may.2 may.3)
     found_of (ArmCount n) may = let own = hand_from may.1 in omega (arith, cursor_fits (hand v).driver own.1 own.2)
     found_of AddArmed may = let own = hand_from may.1 in omega (arith, cursor_fits (hand v).driver own.1 own.2)
+    found_of step may = omega (arith, (cell_rises k words views h id v a at live).0)
 
     suits_of : v.quota ≤ 262144 → (step : WordStep) → May k step v → Suits step v
-    suits_of quota LoadCell may = tt
     suits_of quota ClaimTerm may = (cell_fits, may.1)
     suits_of quota (SaveEnd hi) may = (held_fits may.0, may.4)
-    suits_of quota (RaiseCursor n) may = tt
     suits_of quota StoreLimit may = held_fits may.0
-    suits_of quota ClearLimit may = tt
-    suits_of quota (LoadLimit d) may = tt
     suits_of quota (ArmCount n) may = (hand_fits may.1 quota, may.4)
     suits_of quota AddArmed may = (hand_fits may.1 quota, sum_fits may.1 may.0 quota)
+    suits_of quota step may = tt
 
     pub ready_in : (bs : List Batch) → bs ≡ drawn_by h.drawn (h.newest ∷ h.past) → v.quota ≤ 262144 → (step : WordStep) → May k step v → IsReady step words bs v
     ready_in bs are quota step may =

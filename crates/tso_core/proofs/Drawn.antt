@@ -16,7 +16,7 @@ use Rattle.tso_core.specs.Sound.{IsClient, MayMake, IsSound}
 use Rattle.tso_core.proofs.Dues.{rests, arms, draws}
 use Rattle.tso_core.proofs.Kept.{client_sound}
 use Rattle.tso_core.proofs.Bounds.{hand_fits}
-use Rattle.tso_core.specs.Seat.{HandFits}
+use Rattle.tso_core.specs.Ready.{HandFits}
 use Rattle.tso_core.proofs.Places.{at_get}
 use Rattle.tso_core.proofs.Views.{same_looking, same_arming, same_drawing}
 

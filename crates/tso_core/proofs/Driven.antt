@@ -14,19 +14,20 @@ use Rattle.tso_model.proofs.Basics.{by_bool, by_eq, by_lt}
 use Rattle.tso_model.proofs.CellA.{no_some}
 use Rattle.tso_core.specs.declared.turn.Turn.{Turn}
 use Rattle.tso_core.specs.declared.reply.Due.{Due}
-use Rattle.tso_core.specs.declared.reply.Due.TheVariants.{Rest, Campaign, Save, Raise, Publish}
+use Rattle.tso_core.specs.declared.reply.Due.TheVariants.{Rest, Campaign, Save, Raise, Publish, Arm, Draw}
+use Rattle.tso_core.specs.Done.{step_due}
 use Rattle.tso_core.specs.declared.reply.Reply.TheVariants.{TermsSpent, ClockRange, CellRead, Claimed, Beaten, Saved, Lost, Raised, Published, Probed, Idle, Resigned}
 use Rattle.tso_core.specs.Due.{at_rest}
 use Rattle.tso_model.specs.declared.plan.TheConstants.{AHEAD_MS}
 use Rattle.tso_model.specs.Plan.{end_of, past_clock, lead_next, tick_next, saves_for}
 use Rattle.tso_core.specs.Whole.{Whole, view_at, turn_at, found_by, made, turned}
-use Rattle.tso_core.specs.declared.decided.Decided.{Decided}
+use Rattle.tso_core.specs.declared.plan.Decided.{Decided}
 use Rattle.tso_core.specs.Steps.{read_decides, read_of, campaign_decides, campaign_of, save_decides, its_save, save_of, raise_decides, its_raise, raise_of, its_publish, publish_of, moves_to, goes_to, probe_decides, probe_of, resign_of}
 use Rattle.tso_core.specs.Sound.{IsDriver, IsSettled, MaySave, MayRaise, StandsAt, MayMake, IsSound}
 use Rattle.tso_core.proofs.Dues.{ne_test, in_clock, no_left, some_left}
 use Rattle.tso_core.proofs.Kept.{next_view, driver_sound}
 use Rattle.tso_core.proofs.Bounds.{held_fits}
-use Rattle.tso_core.specs.Seat.{HeldFits}
+use Rattle.tso_core.specs.Ready.{HeldFits}
 use Rattle.tso_core.proofs.Places.{at_get}
 use Rattle.tso_core.proofs.Views.{same_driver}
 
@@ -81,6 +82,16 @@ moves_cases hi cursor next P rest saves_next raises_next =
 goes_cases : (hi cursor : ℕ) (o : Option ℕ) (P : Turn → Type 0) → P at_rest → ((next : ℕ) → hi < end_of next → end_of next < 2 ^ 45 → P (record { due = Save; next = next; publishes = true })) → ((next : ℕ) → next ≤ hi → P (record { due = Raise; next = next; publishes = false })) → P (goes_to hi cursor o).turn
 goes_cases hi cursor None P rest saves_next raises_next = rest
 goes_cases hi cursor (Some next) P rest saves_next raises_next = moves_cases hi cursor next P rest (saves_next next) (raises_next next)
+
+-- where a driver goes
+clock_at : (due : Due) (turn : Turn) (v : View) → HeldFits v → StandsAt due turn v → turn.next < 2 ^ 45
+clock_at Rest turn v fits is = omega (arith, ap (λ (t : Turn). t.next) is.0)
+clock_at Campaign turn v fits is = omega (arith, is.clock)
+clock_at Save turn v fits is = omega (arith, is.clock)
+clock_at Raise turn v fits is = omega (arith, is.below, fits.hi)
+clock_at Publish turn v fits is = omega (arith, is.0)
+clock_at Arm turn v fits is = absurd is
+clock_at Draw turn v fits is = absurd is
 
 module _ (w : Whole) (s : IsSound w) (d : ℕ) (pos : 0 < d) (low : d ≤ w.setup.drivers) where
   the_view : View
@@ -222,3 +233,20 @@ module _ (w : Whole) (s : IsSound w) (d : ℕ) (pos : 0 < d) (low : d ≤ w.setu
 
   pub raise_clock : (turn_at w d).due ≡ Raise → (turn_at w d).next < 2 ^ 45
   raise_clock due = omega (arith, (stands Raise due).below, driver_held.hi)
+
+  -- the time that a driver goes to is below the clock's end
+  pub turn_clock : (turn_at w d).next < 2 ^ 45
+  turn_clock = clock_at (turn_at w d).due (turn_at w d) (view_at w d) driver_held (s.drivers d pos low).stands
+
+  -- the step that is due may be made
+  go_at : (due : Due) → (turn_at w d).due ≡ due → MayMake w d (step_due due (turn_at w d))
+  go_at Rest is = may_read
+  go_at Campaign is = may_campaign is
+  go_at Save is = may_save is
+  go_at Raise is = may_raise is
+  go_at Publish is = may_publish is
+  go_at Arm is = absurd (stands Arm is)
+  go_at Draw is = absurd (stands Draw is)
+
+  pub may_go : MayMake w d (step_due (turn_at w d).due (turn_at w d))
+  may_go = go_at (turn_at w d).due refl

@@ -10,7 +10,7 @@ use Rattle.tso_model.specs.declared.view.View.{View}
 use Rattle.tso_model.specs.declared.step.WordStep.TheVariants.{LoadCell, ClaimTerm, RaiseCursor, ClearLimit, LoadLimit, ArmCount, AddArmed}
 use Rattle.tso_model.specs.Words.{packed, cell_of, cell_word, passes}
 use Rattle.tso_model.specs.Steps.{held, hand, batch_of}
-use Rattle.tso_core.specs.declared.decided.Decided.{Decided}
+use Rattle.tso_core.specs.declared.plan.Decided.{Decided}
 use Rattle.tso_core.specs.declared.reply.Due.{Due}
 use Rattle.tso_core.specs.declared.reply.Due.TheVariants.{Rest, Campaign, Save, Raise, Publish, Arm, Draw}
 use Rattle.tso_core.specs.declared.reply.Kind.{Kind}
@@ -91,21 +91,13 @@ module _ (P Q : Type 0) where
     driver_fair d ToRaise out = tt
     driver_fair d ToPublish out = tt
     driver_fair d Resign out = fair_stepped (view_at w d).holds (decided (made w d ClearLimit) d (record { reply = Resigned; turn = at_rest })) (record { reply = NotLeading; after = w }) tt tt
-    driver_fair d (Look e) out = out (λ z. z)
-    driver_fair d (ToArm n) out = out (λ z. z)
-    driver_fair d ToDraw out = out (λ z. z)
+    driver_fair d kind out = out (λ z. z)
 
     client_fair : (c : ℕ) (kind : Kind) → (¬ Makes (Client c) kind → P) → Q → Fair P Q (client_step w c (due_at w c) kind).reply
     client_fair c (Look d) out owed = looked_fair (found_by w (place_of_client w c) (LoadLimit d)) (view_at w (place_of_client w c)).seen
     client_fair c (ToArm n) out owed = arm_fair (found_by w (place_of_client w c) (ArmCount n)) (hand (view_at w (place_of_client w c))).hi n
     client_fair c ToDraw out owed = draw_fair (found_by w (place_of_client w c) AddArmed) (view_at w (place_of_client w c)) owed
-    client_fair c (Read now) out owed = out (λ z. z)
-    client_fair c ToCampaign out owed = out (λ z. z)
-    client_fair c ToSave out owed = out (λ z. z)
-    client_fair c (Probe now) out owed = out (λ z. z)
-    client_fair c ToRaise out owed = out (λ z. z)
-    client_fair c ToPublish out owed = out (λ z. z)
-    client_fair c Resign out owed = out (λ z. z)
+    client_fair c kind out owed = out (λ z. z)
 
 any_fair : (w : Whole) (actor : Actor) (kind : Kind) → Fair (Unit {0}) (Unit {0}) (step_of w actor kind).reply
 any_fair w (Driver d) kind = fair_stepped (Unit {0}) (Unit {0}) (same_due (due_for kind) (turn_at w d).due) (driver_step w d (turn_at w d).due kind) (out_of_turn w (turn_at w d).due) (driver_fair (Unit {0}) (Unit {0}) w d kind (λ _. tt)) tt
@@ -165,28 +157,16 @@ heard_made w c (note ∷ rest) = tt
 
 module _ (w : Whole) where
   driver_out : (d : ℕ) (kind : Kind) → ¬ Makes (Driver d) kind → driver_step w d (turn_at w d).due kind ≡ out_of_turn w (turn_at w d).due
-  driver_out d (Read now) none = absurd (none tt)
-  driver_out d ToCampaign none = absurd (none tt)
-  driver_out d ToSave none = absurd (none tt)
-  driver_out d (Probe now) none = absurd (none tt)
-  driver_out d ToRaise none = absurd (none tt)
-  driver_out d ToPublish none = absurd (none tt)
-  driver_out d Resign none = absurd (none tt)
   driver_out d (Look e) none = refl
   driver_out d (ToArm n) none = refl
   driver_out d ToDraw none = refl
+  driver_out d kind none = absurd (none tt)
 
   client_out : (c : ℕ) (kind : Kind) → ¬ Makes (Client c) kind → client_step w c (due_at w c) kind ≡ out_of_turn w (due_at w c)
   client_out c (Look d) none = absurd (none tt)
   client_out c (ToArm n) none = absurd (none tt)
   client_out c ToDraw none = absurd (none tt)
-  client_out c (Read now) none = refl
-  client_out c ToCampaign none = refl
-  client_out c ToSave none = refl
-  client_out c (Probe now) none = refl
-  client_out c ToRaise none = refl
-  client_out c ToPublish none = refl
-  client_out c Resign none = refl
+  client_out c kind none = refl
 
   refused : (actor : Actor) (kind : Kind) → ¬ IsNext w actor kind → step_of w actor kind ≡ out_of_turn w (due_of w actor)
   refused (Driver d) kind other =

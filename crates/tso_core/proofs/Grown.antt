@@ -15,7 +15,7 @@ use Rattle.tso_core.specs.declared.reply.Due.TheVariants.{Rest, Campaign, Save, 
 use Rattle.tso_core.specs.declared.reply.Kind.{Kind}
 use Rattle.tso_core.specs.declared.reply.Kind.TheVariants.{Read, Campaign as ToCampaign, Save as ToSave, Probe, Raise as ToRaise, Publish as ToPublish, Resign, Look, Arm as ToArm, Draw as ToDraw}
 use Rattle.tso_core.specs.declared.reply.Reply.{Reply}
-use Rattle.tso_core.specs.declared.reply.Reply.TheVariants.{Got, Won, Beaten, Lost, TermsSpent, ClockRange, Moved, Idle, NotLeading, Resigned, Again, NotLeader, Stale, Told, Heard, Nothing, OutOfTurn, CellRead, Claimed, Saved, Raised, Probed, Published, Looked, Armed}
+use Rattle.tso_core.specs.declared.reply.Reply.TheVariants.{Got, NotLeading, Resigned, Again, Told, OutOfTurn}
 use Rattle.tso_core.specs.Due.{same_due, due_for, at_rest}
 use Rattle.tso_core.specs.Whole.{Whole, place_of_client, view_at, turn_at, post_at, found_by, made}
 use Rattle.tso_core.specs.Steps.{Stepped, out_of_turn, decided, probe_decides, read_of, campaign_of, save_of, raise_of, publish_of, probe_of, resign_of, look_of, arm_of, draw_of, driver_step, client_step, step_of}
@@ -33,30 +33,7 @@ use Rattle.tso_core.proofs.Granted.{grants}
 -- an answer that grants nothing adds nothing
 quiet : (r : Reply) → Fair (Unit {0}) ⊥ r → (bs : List Batch) → Adds r bs bs
 quiet (Got b) fair bs = absurd fair
-quiet (Won a b c) fair bs = refl
-quiet (Beaten f) fair bs = refl
-quiet (Lost f) fair bs = refl
-quiet TermsSpent fair bs = refl
-quiet ClockRange fair bs = refl
-quiet (Moved n h) fair bs = refl
-quiet Idle fair bs = refl
-quiet NotLeading fair bs = refl
-quiet Resigned fair bs = refl
-quiet (Again a h n) fair bs = refl
-quiet NotLeader fair bs = refl
-quiet (Stale t) fair bs = refl
-quiet Told fair bs = refl
-quiet (Heard x) fair bs = refl
-quiet Nothing fair bs = refl
-quiet (OutOfTurn e) fair bs = refl
-quiet (CellRead x) fair bs = refl
-quiet (Claimed t) fair bs = refl
-quiet (Saved h) fair bs = refl
-quiet (Raised x) fair bs = refl
-quiet (Probed x) fair bs = refl
-quiet (Published h) fair bs = refl
-quiet (Looked t h) fair bs = refl
-quiet (Armed a) fair bs = refl
+quiet r fair bs = refl
 
 pub record Quiet (w : Whole) (r : Stepped) : Type 0 where
   pub silent : Fair (Unit {0}) ⊥ r.reply
@@ -108,9 +85,7 @@ module _ (w : Whole) where
           (λ e. ap (λ (b : Bool). Rattle.tso_model.specs.Ledger.batches_after (cond b Rattle.tso_model.specs.declared.step.WordStep.TheVariants.StoreLimit ClearLimit) (found_by w d (cond b Rattle.tso_model.specs.declared.step.WordStep.TheVariants.StoreLimit ClearLimit)) (view_at w d) w.batches) e)
           (λ e. ap (λ (b : Bool). Rattle.tso_model.specs.Ledger.batches_after (cond b Rattle.tso_model.specs.declared.step.WordStep.TheVariants.StoreLimit ClearLimit) (found_by w d (cond b Rattle.tso_model.specs.declared.step.WordStep.TheVariants.StoreLimit ClearLimit)) (view_at w d) w.batches) e)
   driver_same d Resign = batches_cond w.batches (view_at w d).holds (decided (made w d ClearLimit) d (record { reply = Resigned; turn = at_rest })) (record { reply = NotLeading; after = w }) refl refl
-  driver_same d (Look e) = refl
-  driver_same d (ToArm n) = refl
-  driver_same d ToDraw = refl
+  driver_same d kind = refl
 
   pub driver_quiet : (d : ℕ) (kind : Kind) → Quiet w (driver_step w d (turn_at w d).due kind)
   driver_quiet d kind = record { silent = driver_fair (Unit {0}) ⊥ w d kind (λ _. tt); same = driver_same d kind }
@@ -133,13 +108,7 @@ module _ (w : Whole) where
   client_grown c (Look d) = grown w (look_of w c d) (look_quiet c d)
   client_grown c (ToArm n) = grown w (arm_of w c n) (arm_quiet c n)
   client_grown c ToDraw = draw_grown c
-  client_grown c (Read now) = refl
-  client_grown c ToCampaign = refl
-  client_grown c ToSave = refl
-  client_grown c (Probe now) = refl
-  client_grown c ToRaise = refl
-  client_grown c ToPublish = refl
-  client_grown c Resign = refl
+  client_grown c kind = refl
 
   step_grown : (actor : Actor) (kind : Kind) → Grown w (step_of w actor kind)
   step_grown (Driver d) kind = grown_cond w (same_due (due_for kind) (turn_at w d).due) (driver_step w d (turn_at w d).due kind) (out_of_turn w (turn_at w d).due) (grown w (driver_step w d (turn_at w d).due kind) (driver_quiet d kind)) refl

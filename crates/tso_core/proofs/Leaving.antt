@@ -6,7 +6,7 @@ use Rattle.pd_types.specs.declared.oracle.CellWord.{CellWord}
 use Rattle.tso_model.specs.declared.view.View.{View}
 use Rattle.tso_model.specs.Moves.{blank, spent_view, new_note, joined, joined_cell, upper}
 use Rattle.tso_model.proofs.Basics.{by_eq}
-use Rattle.tso_core.specs.Seat.{heard}
+use Rattle.tso_core.specs.Ready.{heard}
 use Rattle.tso_core.specs.Whole.{Whole, place_of_client, view_at, post_at}
 use Rattle.tso_core.specs.Notes.{note_left, note_met}
 

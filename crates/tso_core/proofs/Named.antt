@@ -8,12 +8,12 @@ use Rattle.tso_model.specs.Words.{packed, cell_of, cell_word, limit_at, cursor_a
 use Rattle.tso_model.specs.Plan.{end_of, past_clock, lead_next, tick_next, saves_for}
 use Rattle.tso_model.specs.Steps.{word_of, word_after, held, hand}
 use Rattle.tso_model.proofs.Basics.{by_bool}
-use Rattle.tso_core.specs.declared.decided.Decided.{Decided}
+use Rattle.tso_core.specs.declared.plan.Decided.{Decided}
 use Rattle.tso_core.specs.declared.turn.Turn.{Turn}
 use Rattle.tso_core.specs.declared.reply.Due.{Due}
 use Rattle.tso_core.specs.declared.reply.Due.TheVariants.{Rest, Campaign, Save, Raise, Publish, Arm}
 use Rattle.tso_core.specs.declared.reply.Kind.{Kind}
-use Rattle.tso_core.specs.declared.reply.Kind.TheVariants.{Read, Campaign as ToCampaign, Save as ToSave, Probe, Raise as ToRaise, Publish as ToPublish, Resign, Look, Arm as ToArm, Draw as ToDraw}
+use Rattle.tso_core.specs.declared.reply.Kind.TheVariants.{Read, Campaign as ToCampaign, Save as ToSave, Probe, Raise as ToRaise, Publish as ToPublish, Resign}
 use Rattle.tso_core.specs.declared.reply.Reply.{Reply}
 use Rattle.tso_core.specs.declared.reply.Reply.TheVariants.{Beaten, Lost, TermsSpent, ClockRange, NotLeading, Resigned, Again, NotLeader, Stale, CellRead, Claimed, Saved, Probed, Looked, Armed}
 use Rattle.tso_core.specs.Due.{same_due, due_for, at_rest}
@@ -123,9 +123,7 @@ module _ (w : Whole) (s : IsSound w) (d : ℕ) (has : HasDriver w.setup d) where
   driver_names ToRaise due = raise_names
   driver_names ToPublish due = publish_names
   driver_names Resign due = names_cond d (view_at w d).holds (decided (made w d ClearLimit) d (record { reply = Resigned; turn = at_rest })) (record { reply = NotLeading; after = w }) (λ _. tt) (λ _. tt)
-  driver_names (Look e) due = tt
-  driver_names (ToArm n) due = tt
-  driver_names ToDraw due = tt
+  driver_names kind due = tt
 
 module _ (w : Whole) (c : ℕ) where
   look_names : (d : ℕ) → NamesLimit (look_of w c d).after d (look_of w c d).reply

@@ -40,3 +40,7 @@ module _ {A B : Type 0} (f : A → B) where
   -- a place whose new value means what the old one meant
   pub map_kept : (xs : List A) (i : ℕ) (x : A) (d : B) → f x ≡ get_or (map f xs) i d → map f (set xs i x) ≡ map f xs
   map_kept xs i x d is = map-set f xs i x ∙ ap (λ (v : B). set (map f xs) i v) is ∙ set-get_or (map f xs) i d
+
+  -- a new value at a place that means what the one found there meant
+  pub seat_kept : (xs : List A) (i : ℕ) (x y : A) (d : B) → i < length xs → y ≡ get_or xs i y → f x ≡ f y → map f (set xs i x) ≡ map f xs
+  seat_kept xs i x y d within is same = map_kept xs i x d (same ∙ get_mapped xs i y d within is)

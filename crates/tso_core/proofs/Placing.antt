@@ -29,8 +29,8 @@ longer_at hi (x ∷ y ∷ ys) zero w len is = absurd (omega arith)
 longer_at hi (x ∷ y ∷ ys) (suc i) w len is = ap (λ (us : List Window). x ∷ us) (longer_at hi (y ∷ ys) i w (omega arith) is)
 
 -- the last window made longer
-pub longer_set : (hi : ℕ) (ws : List Window) (w : Window) → 0 < length ws → w ≡ get_or ws (length ws - 1) w → set ws (length ws - 1) (saved_window hi w) ≡ longer_last hi ws
-longer_set hi ws w some is = longer_at hi ws (length ws - 1) w (omega arith) is
+pub longer_set : (hi : ℕ) (ws : List Window) (d : Window) → 0 < length ws → set ws (length ws - 1) (saved_window hi (get_or ws (length ws - 1) d)) ≡ longer_last hi ws
+longer_set hi ws d some = let w : Window = get_or ws (length ws - 1) d in longer_at hi ws (length ws - 1) w (omega arith) (get_any ws (length ws - 1) d w (omega arith))
 
 -- a batch goes to the first place behind all of its term and of lower ones
 pub place_at : (b : Batch) (xs : List Batch) (i : ℕ) → i ≤ length xs → IsPartitionPoint (λ (y : Batch). nat_le y.term b.term ≡ true) (λ (y : Batch). nat_le y.term b.term ≡ false) xs i → insert xs i b ≡ place b xs

@@ -15,7 +15,7 @@ use Rattle.tso_model.specs.Sound.{IsSeen, FitsB}
 use Rattle.tso_model.proofs.Basics.{by_lt, in_order}
 use Rattle.tso_core.specs.declared.reply.Due.TheVariants.{Rest, Arm, Draw}
 use Rattle.tso_core.specs.declared.reply.Kind.{Kind}
-use Rattle.tso_core.specs.declared.reply.Kind.TheVariants.{Read, Campaign as ToCampaign, Save as ToSave, Probe, Raise as ToRaise, Publish as ToPublish, Resign, Look, Arm as ToArm, Draw as ToDraw}
+use Rattle.tso_core.specs.declared.reply.Kind.TheVariants.{Look, Arm as ToArm, Draw as ToDraw}
 use Rattle.tso_core.specs.declared.reply.Reply.{Reply}
 use Rattle.tso_core.specs.declared.reply.Reply.TheVariants.{Got, Won, Beaten, Lost, TermsSpent, ClockRange, Moved, Idle, NotLeading, Resigned, Again, NotLeader, Stale, Told, Heard, Nothing, OutOfTurn, CellRead, Claimed, Saved, Raised, Probed, Published, Looked, Armed}
 use Rattle.tso_core.specs.Due.{same_due, due_for}
@@ -140,13 +140,7 @@ module _ (w : Whole) (c : ℕ) (seen : Seen) where
   client_hears (Look d) = look_hears d
   client_hears (ToArm n) = arm_hears n
   client_hears ToDraw = draw_hears
-  client_hears (Read now) = out_hears
-  client_hears ToCampaign = out_hears
-  client_hears ToSave = out_hears
-  client_hears (Probe now) = out_hears
-  client_hears ToRaise = out_hears
-  client_hears ToPublish = out_hears
-  client_hears Resign = out_hears
+  client_hears kind = out_hears
 
   pub step_hears : (kind : Kind) → HearsInOrder seen (step_of w (Client c) kind).reply
   step_hears kind = stepped_cond seen (same_due (due_for kind) (due_at w c)) (client_step w c (due_at w c) kind) (out_of_turn w (due_at w c)) (λ _. client_hears kind) out_hears

@@ -16,7 +16,7 @@ use Rattle.tso_core.specs.Whole.{Whole, view_at, turn_at, post_at, found_by, mad
 use Rattle.tso_core.specs.Steps.{Stepped, out_of_turn, decided, probe_decides, step_of, driver_step, client_step}
 use Rattle.tso_core.specs.Rows.{due_at}
 use Rattle.tso_core.specs.Notes.{tell_of, hear_of, heard_from, note_left}
-use Rattle.tso_core.specs.Sound.{IsSound, HasClient}
+use Rattle.tso_core.specs.Sound.{IsSound, HasClient, HasDriver}
 use Rattle.tso_core.specs.Asked.{HasActor, IsAsked}
 use Rattle.tso_core.specs.Opened.{opened}
 use Rattle.tso_core.specs.Laws.{Call, Step, Tell, Hear, IsCall, after_call, played, AreCalls}
@@ -42,41 +42,33 @@ module _ (w : Whole) (s : IsSound w) where
   refuses : (due : Due) → Keeps w (out_of_turn w due)
   refuses due = record { sound = s; setup = refl }
 
-  pub driver_keeps : (d : ℕ) → 0 < d → d ≤ w.setup.drivers → (kind : Kind) → (turn_at w d).due ≡ due_for kind → Keeps w (driver_step w d (turn_at w d).due kind)
-  driver_keeps d pos low (Read now) due = record { sound = read_sound w s d pos low now due; setup = refl }
-  driver_keeps d pos low Campaign due = record { sound = campaign_sound w s d pos low due; setup = refl }
-  driver_keeps d pos low Save due = record { sound = save_sound w s d pos low due; setup = refl }
-  driver_keeps d pos low (Probe now) due = record {
+  pub driver_keeps : (d : ℕ) → 0 < d → d ≤ w.setup.drivers → (kind : Kind) → (turn_at w d).due ≡ due_for kind → (at : Due) → Keeps w (driver_step w d at kind)
+  driver_keeps d pos low (Read now) due at = record { sound = read_sound w s d pos low now due; setup = refl }
+  driver_keeps d pos low Campaign due at = record { sound = campaign_sound w s d pos low due; setup = refl }
+  driver_keeps d pos low Save due at = record { sound = save_sound w s d pos low due; setup = refl }
+  driver_keeps d pos low (Probe now) due at = record {
     sound = probe_sound w s d pos low now due;
     setup = setup_cond w.setup (view_at w d).holds (decided (made w d (RaiseCursor 0)) d (probe_decides (held (view_at w d)).hi now (found_by w d (RaiseCursor 0)))) (record { reply = NotLeading; after = w }) refl refl;
   }
-  driver_keeps d pos low Raise due = record { sound = raise_sound w s d pos low due; setup = refl }
-  driver_keeps d pos low Publish due = record { sound = publish_sound w s d pos low due; setup = refl }
-  driver_keeps d pos low Resign due = record {
+  driver_keeps d pos low Raise due at = record { sound = raise_sound w s d pos low due; setup = refl }
+  driver_keeps d pos low Publish due at = record { sound = publish_sound w s d pos low due; setup = refl }
+  driver_keeps d pos low Resign due at = record {
     sound = resign_sound w s d pos low;
     setup = setup_cond w.setup (view_at w d).holds (decided (made w d ClearLimit) d (record { reply = Resigned; turn = at_rest })) (record { reply = NotLeading; after = w }) refl refl;
   }
-  driver_keeps d pos low (Look e) due = refuses (turn_at w d).due
-  driver_keeps d pos low (Arm n) due = refuses (turn_at w d).due
-  driver_keeps d pos low Draw due = refuses (turn_at w d).due
+  driver_keeps d pos low kind due at = refuses at
 
-  client_keeps : (c : ℕ) → 0 < c → c ≤ w.setup.clients → (kind : Kind) → IsAsked w.setup kind → due_at w c ≡ due_for kind → Keeps w (client_step w c (due_at w c) kind)
-  client_keeps c pos low (Look d) asked due = record { sound = look_sound w s c pos low d asked.pos asked.low due; setup = refl }
-  client_keeps c pos low (Arm n) asked due = record { sound = arm_sound w s c pos low n asked.some (omega (arith, asked.most)) due; setup = refl }
-  client_keeps c pos low Draw asked due = record { sound = draw_sound w s c pos low due; setup = refl }
-  client_keeps c pos low (Read now) asked due = refuses (due_at w c)
-  client_keeps c pos low Campaign asked due = refuses (due_at w c)
-  client_keeps c pos low Save asked due = refuses (due_at w c)
-  client_keeps c pos low (Probe now) asked due = refuses (due_at w c)
-  client_keeps c pos low Raise asked due = refuses (due_at w c)
-  client_keeps c pos low Publish asked due = refuses (due_at w c)
-  client_keeps c pos low Resign asked due = refuses (due_at w c)
+  pub client_keeps : (c : ℕ) → 0 < c → c ≤ w.setup.clients → (kind : Kind) → IsAsked w.setup kind → due_at w c ≡ due_for kind → (at : Due) → Keeps w (client_step w c at kind)
+  client_keeps c pos low (Look d) asked due at = record { sound = look_sound w s c pos low d asked.pos asked.low due; setup = refl }
+  client_keeps c pos low (Arm n) asked due at = record { sound = arm_sound w s c pos low n asked.some (omega (arith, asked.most)) due; setup = refl }
+  client_keeps c pos low Draw asked due at = record { sound = draw_sound w s c pos low due; setup = refl }
+  client_keeps c pos low kind asked due at = refuses at
 
   pub step_keeps : (actor : Actor) (kind : Kind) → HasActor w.setup actor → IsAsked w.setup kind → Keeps w (step_of w actor kind)
   step_keeps (Driver d) kind has asked = keeps_cond w (same_due (due_for kind) (turn_at w d).due) (driver_step w d (turn_at w d).due kind) (out_of_turn w (turn_at w d).due)
-      (λ due. driver_keeps d has.pos has.low kind (sym (is_due (due_for kind) (turn_at w d).due due))) (λ _. refuses (turn_at w d).due)
+      (λ due. driver_keeps d has.pos has.low kind (sym (is_due (due_for kind) (turn_at w d).due due)) (turn_at w d).due) (λ _. refuses (turn_at w d).due)
   step_keeps (Client c) kind has asked = keeps_cond w (same_due (due_for kind) (due_at w c)) (client_step w c (due_at w c) kind) (out_of_turn w (due_at w c))
-      (λ due. client_keeps c has.pos has.low kind asked (sym (is_due (due_for kind) (due_at w c) due))) (λ _. refuses (due_at w c))
+      (λ due. client_keeps c has.pos has.low kind asked (sym (is_due (due_for kind) (due_at w c) due)) (due_at w c)) (λ _. refuses (due_at w c))
   step_keeps (Store n) kind has asked = refuses Rest
 
   pub tell_keeps : (from to : ℕ) → HasClient w.setup from → HasClient w.setup to → Keeps w (tell_of w from to)
@@ -90,6 +82,13 @@ module _ (w : Whole) (s : IsSound w) where
   pub hear_keeps : (c : ℕ) → HasClient w.setup c → Keeps w (hear_of w c)
   hear_keeps c has = keeps_cond w (same_due (due_at w c) Rest) (heard_from w c (post_at w c)) (out_of_turn w (due_at w c))
       (λ due. heard_keeps c has (is_due (due_at w c) Rest due) (post_at w c) refl) (λ _. refuses (due_at w c))
+
+  -- what a driver's and a client's step leaves is sound
+  pub driver_after : (d : ℕ) → HasDriver w.setup d → (kind : Kind) → (turn_at w d).due ≡ due_for kind → (u : Whole) → u ≡ (driver_step w d (due_for kind) kind).after → IsSound u
+  driver_after d has kind due u is = subst (λ (x : Whole). IsSound x) (sym is) (driver_keeps d has.pos has.low kind due (due_for kind)).sound
+
+  pub client_after : (c : ℕ) → HasClient w.setup c → (kind : Kind) → IsAsked w.setup kind → due_at w c ≡ due_for kind → (u : Whole) → u ≡ (client_step w c (due_for kind) kind).after → IsSound u
+  client_after c has kind asked due u is = subst (λ (x : Whole). IsSound x) (sym is) (client_keeps c has.pos has.low kind asked due (due_for kind)).sound
 
 record Goes (w u : Whole) : Type 0 where
   sound : IsSound u

@@ -22,7 +22,7 @@ use Rattle.tso_core.specs.declared.reply.Due.TheVariants.{Rest, Campaign, Save, 
 use Rattle.tso_core.specs.declared.reply.Kind.{Kind}
 use Rattle.tso_core.specs.declared.reply.Kind.TheVariants.{Read, Campaign as ToCampaign, Save as ToSave, Probe, Raise as ToRaise, Publish as ToPublish, Resign, Look, Arm as ToArm, Draw as ToDraw}
 use Rattle.tso_core.specs.declared.reply.Reply.{Reply}
-use Rattle.tso_core.specs.declared.reply.Reply.TheVariants.{Got, Won, Beaten, Lost, TermsSpent, ClockRange, Moved, Idle, NotLeading, Resigned, Again, NotLeader, Stale, Told, Heard, Nothing, OutOfTurn, CellRead, Claimed, Saved, Raised, Probed, Published, Looked, Armed}
+use Rattle.tso_core.specs.declared.reply.Reply.TheVariants.{Got, NotLeading, Resigned, Again, NotLeader, Stale, Told, Nothing, Looked, Armed}
 use Rattle.tso_core.specs.Due.{same_due, due_for, at_rest}
 use Rattle.tso_core.specs.Whole.{Whole, place_of_client, view_at, turn_at, post_at, found_by, made, turned}
 use Rattle.tso_core.specs.Steps.{Stepped, out_of_turn, decided, read_decides, campaign_decides, save_decides, raise_decides, probe_decides, its_save, its_raise, its_publish, looked_reply, arm_reply, read_of, campaign_of, save_of, raise_of, publish_of, probe_of, resign_of, look_of, arm_of, draw_of, driver_step, client_step, step_of}
@@ -52,29 +52,7 @@ either e c A same apart = dite (ℕ_discrete e c) same apart
 fair_by : (r : Reply) (seen : Seen) → ((at hi n : ℕ) → r ≡ Again at hi n → passes at hi n ≡ true) → ((b : Batch) → r ≡ Got b → IsAbove seen b) → IsFair r seen
 fair_by (Got b) seen again got = got b refl
 fair_by (Again a h n) seen again got = again a h n refl
-fair_by (Won a b c) seen again got = tt
-fair_by (Beaten f) seen again got = tt
-fair_by (Lost f) seen again got = tt
-fair_by TermsSpent seen again got = tt
-fair_by ClockRange seen again got = tt
-fair_by (Moved n h) seen again got = tt
-fair_by Idle seen again got = tt
-fair_by NotLeading seen again got = tt
-fair_by Resigned seen again got = tt
-fair_by NotLeader seen again got = tt
-fair_by (Stale t) seen again got = tt
-fair_by Told seen again got = tt
-fair_by (Heard x) seen again got = tt
-fair_by Nothing seen again got = tt
-fair_by (OutOfTurn e) seen again got = tt
-fair_by (CellRead x) seen again got = tt
-fair_by (Claimed t) seen again got = tt
-fair_by (Saved h) seen again got = tt
-fair_by (Raised x) seen again got = tt
-fair_by (Probed x) seen again got = tt
-fair_by (Published h) seen again got = tt
-fair_by (Looked t h) seen again got = tt
-fair_by (Armed a) seen again got = tt
+fair_by r seen again got = tt
 
 quiet_fair : (r : Reply) (seen : Seen) → Fair (Unit {0}) ⊥ r → IsFair r seen
 quiet_fair r seen fair = fair_by r seen (λ at hi n is. subst (λ (x : Reply). Fair (Unit {0}) ⊥ x) is fair) (λ b is. absurd (subst (λ (x : Reply). Fair (Unit {0}) ⊥ x) is fair))
@@ -128,12 +106,10 @@ module _ (w : Whole) (s : IsSound w) (d : ℕ) (has : HasDriver w.setup d) where
   driver_sees ToRaise e client = made_sees (its_raise w d) (raise_decides (turn_at w d) (found_by w d (its_raise w d))).turn e client
   driver_sees ToPublish e client = made_sees (its_publish w d) at_rest e client
   driver_sees Resign e client = held_cond (view_at w d).holds (decided (made w d ClearLimit) d (record { reply = Resigned; turn = at_rest })) e (made_sees ClearLimit at_rest e client)
-  driver_sees (Look f) e client = refl
-  driver_sees (ToArm n) e client = refl
-  driver_sees ToDraw e client = refl
+  driver_sees kind e client = refl
 
   driver_calm : (kind : Kind) → same_due (turn_at w d).due (due_for kind) ≡ true → Calm w (driver_step w d (turn_at w d).due kind).after
-  driver_calm kind due = let kept = driver_keeps w s d has.pos has.low kind (is_due (turn_at w d).due (due_for kind) due) in record { sound = kept.sound; setup = kept.setup; seens = driver_sees kind }
+  driver_calm kind due = let kept = driver_keeps w s d has.pos has.low kind (is_due (turn_at w d).due (due_for kind) due) (turn_at w d).due in record { sound = kept.sound; setup = kept.setup; seens = driver_sees kind }
 
   finished_calm : Calm w (finished d w)
   finished_calm = calm_whole w (same_due (turn_at w d).due Publish) (publish_of w d).after w (λ due. driver_calm ToPublish due) (λ _. still w s)
@@ -312,26 +288,14 @@ module _ (w : Whole) (s : IsSound w) (c : ℕ) (has : HasClient w.setup c) where
   client_learns (Look d) asked due = learns_calm w c (look_of w c d) (look_calm w s c has d asked due) (dull_looked (found_by w (place_of_client w c) (LoadLimit d)) (view_at w (place_of_client w c)).seen)
   client_learns (ToArm n) asked due = learns_calm w c (arm_of w c n) (arm_calm w s c has n asked due) (dull_armed (found_by w (place_of_client w c) (ArmCount n)) (hand (view_at w (place_of_client w c))).hi n)
   client_learns ToDraw asked due = draw_learns w s c has due
-  client_learns (Read now) asked due = out_learns w s c (due_at w c)
-  client_learns ToCampaign asked due = out_learns w s c (due_at w c)
-  client_learns ToSave asked due = out_learns w s c (due_at w c)
-  client_learns (Probe now) asked due = out_learns w s c (due_at w c)
-  client_learns ToRaise asked due = out_learns w s c (due_at w c)
-  client_learns ToPublish asked due = out_learns w s c (due_at w c)
-  client_learns Resign asked due = out_learns w s c (due_at w c)
+  client_learns kind asked due = out_learns w s c (due_at w c)
 
   client_fair : (kind : Kind) → due_at w c ≡ due_for kind → IsFair (client_step w c (due_at w c) kind).reply (seen_at w c)
   client_fair (Look d) due = quiet_fair (look_of w c d).reply (seen_at w c) (look_quiet w c d).silent
   client_fair (ToArm n) due = quiet_fair (arm_of w c n).reply (seen_at w c) (arm_quiet w c n).silent
   client_fair ToDraw due = fair_by (draw_of w c).reply (seen_at w c)
       (λ at hi n is. again_passed w (Client c) ToDraw at hi n (subst (λ (x : Due). (cond (same_due Draw x) (draw_of w c) (out_of_turn w x)).reply ≡ Again at hi n) (sym due) is)) (λ b is. (grants w s c has due b is).above)
-  client_fair (Read now) due = tt
-  client_fair ToCampaign due = tt
-  client_fair ToSave due = tt
-  client_fair (Probe now) due = tt
-  client_fair ToRaise due = tt
-  client_fair ToPublish due = tt
-  client_fair Resign due = tt
+  client_fair kind due = tt
 
 tells : (w : Whole) (c : ℕ) → HasClient w.setup c → (r : Stepped) → Learns w c r → Shows w 0 r → Adds r.reply w.batches r.after.batches → IsFair r.reply (seen_at w c) → Rises r.reply (seen_at w c) → Tells w 0 c r
 tells w c has r l windows batches fair rises = record {
@@ -368,7 +332,7 @@ module _ (w : Whole) (s : IsSound w) where
   step_tells : (actor : Actor) (kind : Kind) → HasActor w.setup actor → IsAsked w.setup kind → Tells w (driver_of actor) (client_of actor) (step_of w actor kind)
   step_tells (Driver d) kind has asked = tells_calm w d (step_of w (Driver d) kind)
       (calm_cond w (same_due (due_for kind) (turn_at w d).due) (driver_step w d (turn_at w d).due kind) (out_of_turn w (turn_at w d).due)
-      (λ due. let kept = driver_keeps w s d has.pos has.low kind (sym (is_due (due_for kind) (turn_at w d).due due)) in record { sound = kept.sound; setup = kept.setup; seens = driver_sees w s d has kind }) (λ _. still w s))
+      (λ due. let kept = driver_keeps w s d has.pos has.low kind (sym (is_due (due_for kind) (turn_at w d).due due)) (turn_at w d).due in record { sound = kept.sound; setup = kept.setup; seens = driver_sees w s d has kind }) (λ _. still w s))
       (step_shows w s (Driver d) kind has) ((batches_grow w).step (Driver d) kind)
       (λ seen. fair_cond (same_due (due_for kind) (turn_at w d).due) (driver_step w d (turn_at w d).due kind) (out_of_turn w (turn_at w d).due) seen
       (λ _. quiet_fair (driver_step w d (turn_at w d).due kind).reply seen (driver_quiet w d kind).silent) (λ _. tt))

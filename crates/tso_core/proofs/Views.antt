@@ -5,7 +5,7 @@ use Rattle.tso_model.specs.declared.entries.Claim.{Claim}
 use Rattle.tso_model.specs.declared.view.View.{View}
 use Rattle.tso_model.specs.declared.view.Setup.{Setup}
 use Rattle.tso_model.specs.declared.step.WordStep.{WordStep}
-use Rattle.tso_model.specs.declared.step.WordStep.TheVariants.{LoadCell, ClaimTerm, SaveEnd, RaiseCursor, StoreLimit, ClearLimit, LoadLimit, ArmCount, AddArmed}
+use Rattle.tso_model.specs.declared.step.WordStep.TheVariants.{ClaimTerm, SaveEnd, LoadLimit, ArmCount, AddArmed}
 use Rattle.tso_model.specs.Words.{packed, cell_of, cell_word, passes}
 use Rattle.tso_model.specs.Steps.{view_after, knows, claimed, saves, held, hand, refused, granted, adds}
 use Rattle.tso_core.specs.Sound.{IsDriver, IsClient}
@@ -23,15 +23,11 @@ cond_same v u t true hit miss = hit
 cond_same v u t false hit miss = miss
 
 pub same_actor : (step : WordStep) (n : ℕ) (v : View) → SameActor v (view_after step n v)
-same_actor LoadCell n v = (refl, refl, refl, refl)
 same_actor ClaimTerm n v = cond_same v (claimed v) (knows (cell_of n) v) (eqb n (cell_word v.cell)) (refl, refl, refl, refl) (refl, refl, refl, refl)
 same_actor (SaveEnd hi) n v = cond_same v (saves hi v v.latest) (knows (cell_of n) v) (eqb n (packed (held v).hi (held v).term)) (saved_same hi v v.latest) (refl, refl, refl, refl)
-same_actor (RaiseCursor at) n v = (refl, refl, refl, refl)
-same_actor StoreLimit n v = (refl, refl, refl, refl)
-same_actor ClearLimit n v = (refl, refl, refl, refl)
-same_actor (LoadLimit d) n v = (refl, refl, refl, refl)
 same_actor (ArmCount m) n v = cond_same v (refused n m v) (record v { armed = m }) (passes n (hand v).hi m) (refl, refl, refl, refl) (refl, refl, refl, refl)
 same_actor AddArmed n v = cond_same v (record (refused n v.armed v) { added = (adds v).added }) (granted n v) (passes n (hand v).hi v.armed) (refl, refl, refl, refl) (refl, refl, refl, refl)
+same_actor step n v = (refl, refl, refl, refl)
 
 pub same_driver : (d : ℕ) (step : WordStep) (n : ℕ) (v : View) → IsDriver d v → IsDriver d (view_after step n v)
 same_driver d step n v own = let same = same_actor step n v in record { live = same.0 ∙ own.live; driver = same.1 ∙ own.driver; quota = omega (arith, same.3, own.quota) }

@@ -19,11 +19,11 @@ use Rattle.tso_model.specs.Ledger.{longer_last, windows_after}
 use Rattle.tso_model.specs.Steps.{held, held_or, hand, batch_of, new_claim, saved_window}
 use Rattle.tso_model.proofs.Basics.{by_bool, by_eq, by_lt, at_some}
 use Rattle.tso_model.proofs.Records.{longer_push}
-use Rattle.tso_core.specs.declared.decided.Decided.{Decided}
+use Rattle.tso_core.specs.declared.plan.Decided.{Decided}
 use Rattle.tso_core.specs.declared.reply.Due.{Due}
 use Rattle.tso_core.specs.declared.reply.Due.TheVariants.{Rest, Campaign, Save, Raise, Publish, Arm, Draw}
 use Rattle.tso_core.specs.declared.reply.Kind.{Kind}
-use Rattle.tso_core.specs.declared.reply.Kind.TheVariants.{Read, Campaign as ToCampaign, Save as ToSave, Probe, Raise as ToRaise, Publish as ToPublish, Resign, Look, Arm as ToArm, Draw as ToDraw}
+use Rattle.tso_core.specs.declared.reply.Kind.TheVariants.{Read, Campaign as ToCampaign, Save as ToSave, Probe, Publish as ToPublish, Resign, Look, Arm as ToArm, Draw as ToDraw}
 use Rattle.tso_core.specs.declared.reply.Reply.{Reply}
 use Rattle.tso_core.specs.declared.reply.Reply.TheVariants.{Got, Again, NotLeader, Stale, Told, Looked, Armed, Beaten, Lost, TermsSpent, ClockRange, Idle, NotLeading, Resigned, CellRead, Claimed, Saved, Probed}
 use Rattle.tso_core.specs.Due.{same_due, due_for, at_rest}
@@ -128,13 +128,7 @@ module _ (w : Whole) (e : ℕ) where
   client_shows c (Look d) = shows_still w e (look_of w c d) refl (still_looked (found_by w (place_of_client w c) (LoadLimit d)) (view_at w (place_of_client w c)).seen)
   client_shows c (ToArm n) = shows_still w e (arm_of w c n) refl (still_armed (found_by w (place_of_client w c) (ArmCount n)) (hand (view_at w (place_of_client w c))).hi n)
   client_shows c ToDraw = shows_still w e (draw_of w c) refl (still_drawn (found_by w (place_of_client w c) AddArmed) (view_at w (place_of_client w c)))
-  client_shows c (Read now) = refl
-  client_shows c ToCampaign = refl
-  client_shows c ToSave = refl
-  client_shows c (Probe now) = refl
-  client_shows c ToRaise = refl
-  client_shows c ToPublish = refl
-  client_shows c Resign = refl
+  client_shows c kind = refl
 
   pub take_shows : (c d n : ℕ) → Shows w e (take_of w c d n)
   take_shows c d n = shows_cond w e (same_due (due_at w c) Rest) (take_looked c n (look_of w c d)) (out_of_turn w (due_at w c))
@@ -208,12 +202,9 @@ module _ (w : Whole) (s : IsSound w) (d : ℕ) (has : HasDriver w.setup d) where
   driver_shows ToSave due = save_shows due
   driver_shows (Probe now) due = shows_cond w d (view_at w d).holds (decided (made w d (RaiseCursor 0)) d (probe_decides (held (view_at w d)).hi now (found_by w d (RaiseCursor 0)))) (record { reply = NotLeading; after = w })
       (λ _. shows_still w d (decided (made w d (RaiseCursor 0)) d (probe_decides (held (view_at w d)).hi now (found_by w d (RaiseCursor 0)))) refl (still_goes (held (view_at w d)).hi (found_by w d (RaiseCursor 0)) (tick_next (found_by w d (RaiseCursor 0)) (held (view_at w d)).hi now))) (λ _. refl)
-  driver_shows ToRaise due = refl
   driver_shows ToPublish due = publish_shows
   driver_shows Resign due = shows_cond w d (view_at w d).holds (decided (made w d ClearLimit) d (record { reply = Resigned; turn = at_rest })) (record { reply = NotLeading; after = w }) (λ _. refl) (λ _. refl)
-  driver_shows (Look e) due = refl
-  driver_shows (ToArm n) due = refl
-  driver_shows ToDraw due = refl
+  driver_shows kind due = refl
 
   -- an answer by its state
   answered : (kinds : List Kind) (reply : Reply) (state : DriverState) (r : Stepped) → Answers w d kinds reply state r → state.windows ≡ windows_told d reply w.windows → Shows w d r

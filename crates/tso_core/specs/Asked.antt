@@ -4,7 +4,7 @@ use Rattle.pd_types.specs.declared.oracle.Actor.{Actor}
 use Rattle.pd_types.specs.declared.oracle.Actor.TheVariants.{Driver, Client, Store}
 use Rattle.tso_model.specs.declared.view.Setup.{Setup}
 use Rattle.tso_core.specs.declared.reply.Kind.{Kind}
-use Rattle.tso_core.specs.declared.reply.Kind.TheVariants.{Read, Campaign, Save, Probe, Raise, Publish, Resign, Look, Arm, Draw}
+use Rattle.tso_core.specs.declared.reply.Kind.TheVariants.{Look, Arm}
 use Rattle.tso_core.specs.Sound.{HasDriver, HasClient}
 
 -- the driver or client is one of the oracle's; a store makes no step
@@ -22,11 +22,4 @@ pub record IsCount (n : ℕ) : Type 0 where
 abbrev pub IsAsked : Setup → Kind → Type 0
 IsAsked k (Look d) = HasDriver k d
 IsAsked k (Arm n) = IsCount n
-IsAsked k (Read now) = Unit {0}
-IsAsked k Campaign = Unit {0}
-IsAsked k Save = Unit {0}
-IsAsked k (Probe now) = Unit {0}
-IsAsked k Raise = Unit {0}
-IsAsked k Publish = Unit {0}
-IsAsked k Resign = Unit {0}
-IsAsked k Draw = Unit {0}
+IsAsked k kind = Unit {0}

@@ -3,7 +3,7 @@ use Rattle.std.specs.Prelude.{ℕ, Bool, false, nat_eq}
 use Rattle.tso_core.specs.declared.reply.Due.{Due}
 use Rattle.tso_core.specs.declared.reply.Due.TheVariants.{Rest, Campaign, Save, Raise, Publish, Arm, Draw}
 use Rattle.tso_core.specs.declared.reply.Kind.{Kind}
-use Rattle.tso_core.specs.declared.reply.Kind.TheVariants.{Read, Campaign as ToCampaign, Save as ToSave, Probe, Raise as ToRaise, Publish as ToPublish, Resign, Look, Arm as ToArm, Draw as ToDraw}
+use Rattle.tso_core.specs.declared.reply.Kind.TheVariants.{Campaign as ToCampaign, Save as ToSave, Raise as ToRaise, Publish as ToPublish, Arm as ToArm, Draw as ToDraw}
 use Rattle.tso_core.specs.declared.turn.Turn.{Turn}
 
 -- the place of a due among all
@@ -22,16 +22,13 @@ same_due a b = nat_eq (place_of a) (place_of b)
 
 -- the due at which a step comes
 abbrev pub due_for : Kind → Due
-due_for (Read now) = Rest
 due_for ToCampaign = Campaign
 due_for ToSave = Save
-due_for (Probe now) = Rest
 due_for ToRaise = Raise
 due_for ToPublish = Publish
-due_for Resign = Rest
-due_for (Look driver) = Rest
 due_for (ToArm n) = Arm
 due_for ToDraw = Draw
+due_for kind = Rest
 
 -- a driver between two calls
 abbrev pub at_rest : Turn

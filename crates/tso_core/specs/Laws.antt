@@ -1,5 +1,5 @@
 -- What is true of every sound state, of every list of calls and of every answer.
-use Rattle.std.specs.Prelude.{◌≡◌, ◌≢◌, ℕ, ◌+◌, ◌-◌, ◌*◌, ◌<◌, ◌≤◌, max, true, List, [], ◌∷◌, ◌++◌, map, All, slice_index, nat_eq, nat_lt, if◌then◌else◌}
+use Rattle.std.specs.Prelude.{◌≡◌, ◌≢◌, ℕ, ◌+◌, ◌-◌, ◌*◌, ◌≤◌, max, true, List, [], ◌∷◌, ◌++◌, map, All, slice_index, nat_eq, nat_lt, if◌then◌else◌}
 use Rattle.pd_types.specs.declared.oracle.Actor.{Actor}
 use Rattle.pd_types.specs.declared.oracle.Actor.TheVariants.{Driver, Client, Store}
 use Rattle.pd_types.specs.declared.oracle.Batch.{Batch}
@@ -12,7 +12,7 @@ use Rattle.tso_model.specs.Moves.{greater, nothing_seen}
 use Rattle.tso_model.specs.Ledger.{IsWindowList, IsDrawList, place}
 use Rattle.tso_model.specs.OneHistory.{IsAbove}
 use Rattle.tso_core.specs.declared.reply.Kind.{Kind}
-use Rattle.tso_core.specs.declared.reply.Kind.TheVariants.{Read, Campaign, Save, Probe, Raise, Publish, Resign, Look, Arm, Draw}
+use Rattle.tso_core.specs.declared.reply.Kind.TheVariants.{Look, Arm, Draw}
 use Rattle.tso_core.specs.declared.reply.Due.{Due}
 use Rattle.tso_core.specs.declared.reply.Due.TheVariants.{Rest, Draw as DrawDue}
 use Rattle.tso_core.specs.declared.reply.Reply.{Reply}
@@ -53,28 +53,16 @@ AgainPassed w = (actor : Actor) (kind : Kind) (at hi n : ℕ) → (step_of w act
 abbrev pub TakeAgainPassed : Whole → Type 0
 TakeAgainPassed w = (c d m at hi n : ℕ) → (take_of w c d m).reply ≡ Again at hi n → passes at hi n ≡ true
 
--- who makes steps of a kind
+-- who makes steps of a kind: a client looks, arms and draws, and a driver makes all others
 abbrev pub Makes : Actor → Kind → Type 0
-Makes (Driver d) (Read now) = Unit {0}
-Makes (Driver d) Campaign = Unit {0}
-Makes (Driver d) Save = Unit {0}
-Makes (Driver d) (Probe now) = Unit {0}
-Makes (Driver d) Raise = Unit {0}
-Makes (Driver d) Publish = Unit {0}
-Makes (Driver d) Resign = Unit {0}
 Makes (Driver d) (Look e) = ⊥
 Makes (Driver d) (Arm n) = ⊥
 Makes (Driver d) Draw = ⊥
-Makes (Client c) (Read now) = ⊥
-Makes (Client c) Campaign = ⊥
-Makes (Client c) Save = ⊥
-Makes (Client c) (Probe now) = ⊥
-Makes (Client c) Raise = ⊥
-Makes (Client c) Publish = ⊥
-Makes (Client c) Resign = ⊥
+Makes (Driver d) kind = Unit {0}
 Makes (Client c) (Look e) = Unit {0}
 Makes (Client c) (Arm n) = Unit {0}
 Makes (Client c) Draw = Unit {0}
+Makes (Client c) kind = ⊥
 Makes (Store s) kind = ⊥
 
 -- the kind is the actor's next

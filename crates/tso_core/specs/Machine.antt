@@ -1,36 +1,60 @@
 -- What the machine in memory means, and the room that a step of one actor finds there.
-use Rattle.std.specs.Prelude.{◌≡◌, ℕ, ◌+◌, List, map}
-use mathlib.Core.Option.{some}
-use lib.ListN.{get_elem?}
-use Rattle.tso_core.specs.declared.seat.Seat.{Seat}
-use Rattle.tso_core.specs.declared.lists.Lists.{Lists}
+use Rattle.std.specs.Prelude.{◌≡◌, ℕ, List, map, min, get_or}
 use Rattle.tso_core.specs.declared.machine.Machine.{Machine}
 use Rattle.tso_core.specs.declared.post.Post.{Post}
-use Rattle.tso_core.specs.Seat.{view_of, HasRoom}
-use Rattle.tso_core.specs.Lists.{HasRows}
-use Rattle.tso_core.specs.Whole.{Whole}
+use Rattle.tso_core.specs.declared.reply.Due.{Due}
+use Rattle.tso_core.specs.declared.reply.Reply.{Reply}
+use Rattle.tso_core.specs.declared.turn.Turn.{Turn}
+use Rattle.tso_core.specs.Seated.{view_of, no_seat}
+use Rattle.tso_core.specs.Whole.{Whole, view_at, turn_at, found_by, made}
+use Rattle.tso_core.specs.Steps.{Stepped, decided}
+use Rattle.tso_model.specs.declared.step.WordStep.{WordStep}
+use Rattle.tso_core.specs.declared.done.Done.{Done}
+use Rattle.tso_core.specs.Done.{done_of, reply_of, follow, step_due}
+use Rattle.tso_core.specs.Rows.{due_at}
+use Rattle.tso_core.specs.Sound.{IsSound, HasDriver, HasClient}
 
 -- the notes of a post, the oldest first
 abbrev pub waits_in : Post → List ℕ
 waits_in p = p.notes.items
 
 -- the state
-abbrev pub whole_of : Machine → Lists → Whole
-whole_of m l = record {
+abbrev pub whole_of : Machine → Whole
+whole_of m = record {
   setup = m.setup;
   words = m.words.items;
   views = map view_of m.seats.items;
   turns = m.turns.items;
   posts = map waits_in m.posts.items;
-  windows = l.windows.items;
-  batches = l.batches.items;
+  windows = m.run.windows;
+  batches = m.run.batches;
 }
 
--- the seat at this place and the lists have room for n more steps
-pub record RoomAt (n id : ℕ) (m : Machine) (l : Lists) : Type 0 where
-  pub seat : (s : Seat) → get_elem? m.seats.items id ≡ some s → HasRoom n s
-  pub rows : HasRows n l
+-- how many more steps the seat at this place and the lists of the run have room for
+abbrev pub room_at : Machine → ℕ → ℕ
+room_at m id = min (get_or m.seats.items id no_seat).spare m.run.spare
 
--- one step takes one place of each list at most
-abbrev pub UsesOneAt : ℕ → Machine → Lists → Machine → Lists → Type 0
-UsesOneAt id m l m' l' = (n : ℕ) → RoomAt (n + 1) id m l → RoomAt n id m' l'
+-- the machine is sound, and this is the step that is the driver's next
+pub record DriverAt (next : Due) (d : ℕ) (m : Machine) : Type 0 where
+  pub sound : IsSound (whole_of m)
+  pub driver : HasDriver m.setup d
+  pub due : (turn_at (whole_of m) d).due ≡ next
+
+-- the machine is sound, and this is the step that is the client's next
+pub record ClientAt (next : Due) (c : ℕ) (m : Machine) : Type 0 where
+  pub sound : IsSound (whole_of m)
+  pub client : HasClient m.setup c
+  pub due : due_at (whole_of m) c ≡ next
+
+-- the answer and the state after it are these
+pub record Answers (said : Reply) (m : Machine) (r : Stepped) : Type 0 where
+  pub reply : said ≡ r.reply
+  pub after : whole_of m ≡ r.after
+
+-- the driver makes the step that is due, and goes on as what it did decides
+abbrev pub went_on : Whole → ℕ → Stepped
+went_on w d =
+    let turn : Turn = turn_at w d in
+    let step : WordStep = step_due turn.due turn in
+    let done : Done = done_of step (found_by w d step) (view_at w d) in
+    decided (made w d step) d (record { reply = reply_of done; turn = follow turn done })

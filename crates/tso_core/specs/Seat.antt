@@ -1,105 +1,53 @@
--- What a seat in memory means, and how much room its lists have.
-use Rattle.std.specs.Prelude.{ℕ, ◌+◌, ◌<◌, ◌≤◌, ◌^◌, List, [], ◌∷◌, ◌++◌, length, slice_index, vec_len, vec_capacity}
-use Rattle.std.specs.List.Sorted.{IsNonDecreasingBy}
-use Rattle.pd_types.specs.declared.oracle.Batch.{Batch}
-use Rattle.tso_model.specs.declared.view.View.{View}
-use Rattle.tso_model.specs.History.{added_by}
-use Rattle.pd_types.specs.declared.oracle.Seen.{Seen}
-use Rattle.tso_model.specs.Moves.{greater}
-use Rattle.tso_model.specs.Steps.{refused, adds, held, hand, word_of}
-use Rattle.tso_model.specs.declared.step.WordStep.{WordStep}
-use Rattle.tso_model.specs.declared.step.WordStep.TheVariants.{LoadCell, ClaimTerm, SaveEnd, RaiseCursor, StoreLimit, ClearLimit, LoadLimit, ArmCount, AddArmed}
-use Rattle.tso_core.specs.declared.seat.Seat.{Seat}
+-- What the fields of a seat in memory mean.
+use Rattle.std.specs.Prelude.{◌≡◌, ◌+◌, ◌≤◌, [], vec_len, vec_capacity}
+use Rattle.tso_model.specs.History.{greatest}
+use Rattle.tso_core.specs.Cached.{AreSums}
+use Rattle.tso_core.specs.Seated.{Seated}
+use Rattle.tso_core.specs.declared.seat.Seat.TheInside.{Inside}
 
--- the view that a seat holds; only the base has numbers to give, and it has given them all
-abbrev pub view_of : Seat → View
-view_of s = record {
-  spent = s.spent;
-  opening = s.opening;
-  driver = s.driver;
-  client = s.client;
-  give_drivers = [];
-  give_clients = [];
-  took_drivers = s.took_drivers.items;
-  took_clients = s.took_clients.items;
-  cell = s.cell;
-  holds = s.holds;
-  marked = s.marked;
-  latest = s.latest;
-  older = s.older.items;
-  founds = s.founds.items;
-  starts = s.starts.items;
-  published = s.published.items;
-  seen = s.seen;
-  hand = s.hand;
-  armed = s.armed;
-  quota = s.quota;
-  grants = s.grants.items;
-  looks = s.looks.items;
-  refusals = s.refusals.items;
-  added = s.added.items;
+-- the view and the room
+abbrev pub seated_of : Inside → Seated
+seated_of s = record {
+  view = record {
+    spent = s.spent;
+    opening = s.opening;
+    driver = s.driver;
+    client = s.client;
+    give_drivers = [];
+    give_clients = [];
+    took_drivers = s.took_drivers.items;
+    took_clients = s.took_clients.items;
+    cell = s.cell;
+    holds = s.holds;
+    marked = s.marked;
+    latest = s.latest;
+    older = s.older.items;
+    founds = s.founds.items;
+    starts = s.starts.items;
+    published = s.published.items;
+    seen = s.seen;
+    hand = s.hand;
+    armed = s.armed;
+    quota = s.quota;
+    grants = s.grants.items;
+    looks = s.looks.items;
+    refusals = s.refusals.items;
+    added = s.added.items;
+  };
+  spare = s.spare;
 }
 
--- the view that heard a note with this pair
-abbrev pub heard : Seen → View → View
-heard seen v = record v {
-  took_drivers = v.took_drivers ++ 0 ∷ [];
-  took_clients = v.took_clients ++ 0 ∷ [];
-  seen = greater v.seen seen;
-}
-
--- the view whose armed count is added and refused at the cursor `at`
-abbrev pub overshot : ℕ → View → View
-overshot at v = record (refused at v.armed v) { added = (adds v).added }
-
--- the cell that it knows is in range
-pub record CellFits (v : View) : Type 0 where
-  pub saved : v.cell.saved < 2 ^ 45
-  pub term : v.cell.term < 262144
-
--- its latest window is in range
-pub record HeldFits (v : View) : Type 0 where
-  pub hi : (held v).hi < 2 ^ 45
-  pub term : (held v).term < 262144
-
--- the limit in hand and what is armed are in range
-pub record HandFits (v : View) : Type 0 where
-  pub hi : (hand v).hi < 2 ^ 45
-  pub driver : (hand v).driver < 8
-  pub armed : v.armed ≤ 262144
-
--- what the step uses of the view is in range, and so is its own number
-abbrev pub Suits : WordStep → View → Type 0
-Suits LoadCell v = Unit {0}
-Suits ClaimTerm v = CellFits v × (v.cell.term < 262143)
-Suits (SaveEnd hi) v = HeldFits v × (hi < 2 ^ 45)
-Suits (RaiseCursor at) v = Unit {0}
-Suits StoreLimit v = HeldFits v
-Suits ClearLimit v = Unit {0}
-Suits (LoadLimit d) v = Unit {0}
-Suits (ArmCount n) v = HandFits v × (n < 262144)
-Suits AddArmed v = HandFits v × (added_by v.client (hand v).driver v.added + v.armed < 2 ^ 64)
-
--- the step can be made without a number out of range, where it finds this word and these batches
-pub record IsReady (step : WordStep) (words : List ℕ) (batches : List Batch) (v : View) : Type 0 where
-  pub place : word_of step v < length words
-  pub suits : Suits step v
-  pub found : slice_index words (word_of step v) < 2 ^ 63 + 2 ^ 26
-  pub sorted : IsNonDecreasingBy (λ (b : Batch). b.term) batches
-
--- each list has room for n more entries
-pub record HasRoom (n : ℕ) (s : Seat) : Type 0 where
-  pub took_drivers : vec_len s.took_drivers + n ≤ vec_capacity s.took_drivers
-  pub took_clients : vec_len s.took_clients + n ≤ vec_capacity s.took_clients
-  pub older : vec_len s.older + n ≤ vec_capacity s.older
-  pub founds : vec_len s.founds + n ≤ vec_capacity s.founds
-  pub starts : vec_len s.starts + n ≤ vec_capacity s.starts
-  pub published : vec_len s.published + n ≤ vec_capacity s.published
-  pub grants : vec_len s.grants + n ≤ vec_capacity s.grants
-  pub looks : vec_len s.looks + n ≤ vec_capacity s.looks
-  pub refusals : vec_len s.refusals + n ≤ vec_capacity s.refusals
-  pub added : vec_len s.added + n ≤ vec_capacity s.added
-
--- a step takes one place of each list at most
-abbrev pub UsesOne : Seat → Seat → Type 0
-UsesOne old new = (n : ℕ) → HasRoom (n + 1) old → HasRoom n new
+-- each list has room for so many more entries, and what is kept beside the lists is right
+pub record IsKept (s : Inside) : Type 0 where
+  pub took_drivers : vec_len s.took_drivers + s.spare ≤ vec_capacity s.took_drivers
+  pub took_clients : vec_len s.took_clients + s.spare ≤ vec_capacity s.took_clients
+  pub older : vec_len s.older + s.spare ≤ vec_capacity s.older
+  pub founds : vec_len s.founds + s.spare ≤ vec_capacity s.founds
+  pub starts : vec_len s.starts + s.spare ≤ vec_capacity s.starts
+  pub published : vec_len s.published + s.spare ≤ vec_capacity s.published
+  pub grants : vec_len s.grants + s.spare ≤ vec_capacity s.grants
+  pub looks : vec_len s.looks + s.spare ≤ vec_capacity s.looks
+  pub refusals : vec_len s.refusals + s.spare ≤ vec_capacity s.refusals
+  pub added : vec_len s.added + s.spare ≤ vec_capacity s.added
+  pub greatest_start : s.greatest_start ≡ greatest s.driver s.starts.items
+  pub sums : AreSums s.client s.added.items s.sums

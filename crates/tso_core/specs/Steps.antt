@@ -12,7 +12,7 @@ use Rattle.tso_model.specs.declared.step.WordStep.TheVariants.{LoadCell, ClaimTe
 use Rattle.tso_model.specs.Words.{packed, cell_of, cell_word, passes}
 use Rattle.tso_model.specs.Steps.{held, hand, batch_of}
 use Rattle.tso_core.specs.declared.turn.Turn.{Turn}
-use Rattle.tso_core.specs.declared.decided.Decided.{Decided}
+use Rattle.tso_core.specs.declared.plan.Decided.{Decided}
 use Rattle.tso_core.specs.declared.reply.Due.{Due}
 use Rattle.tso_core.specs.declared.reply.Due.TheVariants.{Rest, Campaign, Save, Raise, Publish, Arm, Draw}
 use Rattle.tso_core.specs.declared.reply.Kind.{Kind}
@@ -184,22 +184,14 @@ driver_step w d due (Probe now) = probe_of w d now
 driver_step w d due ToRaise = raise_of w d
 driver_step w d due ToPublish = publish_of w d
 driver_step w d due Resign = resign_of w d
-driver_step w d due (Look e) = out_of_turn w due
-driver_step w d due (ToArm n) = out_of_turn w due
-driver_step w d due ToDraw = out_of_turn w due
+driver_step w d due kind = out_of_turn w due
 
 -- the step of a client that is at this due
 abbrev pub client_step : Whole → ℕ → Due → Kind → Stepped
 client_step w c due (Look d) = look_of w c d
 client_step w c due (ToArm n) = arm_of w c n
 client_step w c due ToDraw = draw_of w c
-client_step w c due (Read now) = out_of_turn w due
-client_step w c due ToCampaign = out_of_turn w due
-client_step w c due ToSave = out_of_turn w due
-client_step w c due (Probe now) = out_of_turn w due
-client_step w c due ToRaise = out_of_turn w due
-client_step w c due ToPublish = out_of_turn w due
-client_step w c due Resign = out_of_turn w due
+client_step w c due kind = out_of_turn w due
 
 -- one step of any actor: what it is, where it is next for that actor, else nothing
 abbrev pub step_of : Whole → Actor → Kind → Stepped

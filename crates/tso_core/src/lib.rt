@@ -1,25 +1,24 @@
 //! The timestamp oracle as a machine that makes one atomic step at a time.
 #![tactic(auto)]
 
-mod calls;
-mod clients;
-mod decided;
-mod drivers;
+mod done;
 mod laws;
-mod lists;
 mod machine;
 mod notes;
 mod opening;
 mod oracle;
+mod plan;
 mod post;
 mod reply;
 mod rows;
+mod run;
 mod seat;
 mod step;
 #[cfg(test)]
 mod tests;
 mod turn;
 
+pub(crate) use done::Done;
 pub use laws::{
     every_answer_tells, every_call_tells, every_list_of_calls_keeps, every_sound_state_tells,
     every_whole_call_tells,

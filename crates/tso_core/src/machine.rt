@@ -1,22 +1,22 @@
-// The words, the seats and the turns in memory, and one atomic step of them.
-ghost use Rattle.std.specs.Prelude.{◌≡◌, ℕ, ◌+◌, ◌<◌, ◌≤◌, length, slice_index, slice_set, OnOk};
-ghost use Rattle.tso_model.specs.Steps.{word_of, word_after, view_after};
-ghost use Rattle.tso_model.specs.Ledger.{windows_after, batches_after};
-ghost use Rattle.tso_core.specs.Seat.{view_of, HasRoom, UsesOne, IsReady};
-ghost use Rattle.tso_core.specs.Lists.{HasRows, UsesRow};
-ghost use Rattle.tso_core.specs.Whole.{view_at, turn_at, found_by, made, turned};
-ghost use Rattle.tso_core.specs.Sound.{IsSound, MayMake};
-ghost use Rattle.tso_core.specs.Machine.{whole_of, RoomAt, UsesOneAt};
+// The oracle in memory, and one atomic step of it.
+ghost use Rattle.std.specs.Prelude.{◌≡◌, ◌-◌, ◌<◌, ◌≤◌, length, OnOk};
+ghost use Rattle.tso_core.specs.Asked.{HasActor};
+ghost use Rattle.tso_core.specs.Done.{done_of};
+ghost use Rattle.tso_core.specs.Due.{same_due};
+ghost use Rattle.tso_core.specs.Machine.{whole_of, room_at};
+ghost use Rattle.tso_core.specs.Rows.{due_at};
+ghost use Rattle.tso_core.specs.Sound.{IsSound, MayMake, HasDriver, HasClient};
+ghost use Rattle.tso_core.specs.Steps.{due_of};
+ghost use Rattle.tso_core.specs.Whole.{place_of_client, view_at, turn_at, found_by, made};
 
-use crate::decided::Decided;
-use crate::lists::Lists;
 use crate::post::Post;
+use crate::run::Run;
 use crate::seat::Seat;
-use crate::{Reply, Turn};
-use pd_types::NoMemory;
+use crate::{Done, Due, Turn};
+use pd_types::{Actor, NoMemory};
 use tso_model::{Setup, WordStep};
 
-/// The oracle without the lists of its run.
+/// The oracle: its words, what each actor knows, where each stands, and the lists of its run.
 #[derive(Drop)]
 pub struct Machine {
     pub setup: Setup,
@@ -24,101 +24,91 @@ pub struct Machine {
     pub seats: Vec<Seat>,
     pub turns: Vec<Turn>,
     pub posts: Vec<Post>,
+    pub run: Run,
+}
+
+/// A step that was made: the word that it found, and what it did.
+#[derive(Clone, Copy, Debug, Drop)]
+pub struct Made {
+    pub found: u64,
+    pub done: Done,
 }
 
 impl Machine {
     /// Makes room for `n` more steps of the seat at this place. Want of memory leaves the state.
-    pub fn reserve(&mut self, lists: &mut Lists, id: usize, n: usize) -> Result<(), NoMemory>
-        requires inside { id < length (whole_of self.old lists.old).views }
-        ensures whole { whole_of self.new lists.new ≡ whole_of self.old lists.old }
-        ensures setup { self.new.setup ≡ self.old.setup }
-        ensures room { OnOk result (RoomAt n id self.new lists.new) }
+    pub fn reserve(&mut self, id: usize, n: usize) -> Result<(), NoMemory>
+        requires inside { id < length self.old.seats.items }
+        ensures whole { whole_of self.new ≡ whole_of self.old }
+        ensures ok { OnOk result (n ≤ room_at self.new id) }
     {
         self.seats[id].reserve(n)?;
-        lists.reserve(n)
+        self.run.reserve(n)
     }
 
-    /// Makes the step of the seat at this place, and answers the word that it found.
-    pub fn make(&mut self, lists: &mut Lists, id: usize, step: WordStep) -> u64
-        requires sound { IsSound (whole_of self.old lists.old) }
-        requires may { MayMake (whole_of self.old lists.old) id step }
-        requires room { RoomAt 1 id self.old lists.old }
-        ensures found { result ≡ found_by (whole_of self.old lists.old) id step }
-        ensures after { whole_of self.new lists.new ≡ made (whole_of self.old lists.old) id step }
-        ensures setup { self.new.setup ≡ self.old.setup }
-        ensures turns { self.new.turns.items ≡ self.old.turns.items }
-        ensures room { UsesOneAt id self.old lists.old self.new lists.new }
+    /// Makes the step of the seat at this place: the word is found and written, the seat learns of it,
+    /// and the run keeps what was done.
+    pub fn make(&mut self, id: usize, step: WordStep) -> Made
+        requires sound { IsSound (whole_of self.old) }
+        requires may { MayMake (whole_of self.old) id step }
+        requires room { 0 < room_at self.old id }
+        ensures found { result.found ≡ found_by (whole_of self.old) id step }
+        ensures done { result.done ≡ done_of step (found_by (whole_of self.old) id step) (view_at (whole_of self.old) id) }
+        ensures after { whole_of self.new ≡ made (whole_of self.old) id step }
+        ensures room { room_at self.new id ≡ room_at self.old id - 1 }
     {
-        take_step(&mut self.words, &mut self.seats[id], lists, step)
+        let seat = &mut self.seats[id];
+        let place = seat.place(step);
+        let found = self.words[place];
+        self.words[place] = seat.written(step, found);
+        let done = seat.make(step, found);
+        self.run.keep(done);
+        Made { found, done }
     }
 
-    /// The word that the step of the seat at this place would find.
-    pub fn peek(&self, lists: &Lists, id: usize, step: WordStep) -> u64
-        requires sound { IsSound (whole_of self.now lists.now) }
-        requires may { MayMake (whole_of self.now lists.now) id step }
-        ensures found { result ≡ found_by (whole_of self.now lists.now) id step }
+    /// The client's place among the seats.
+    pub fn place(&self, client: u8) -> usize
+        ensures value { result ≡ place_of_client (whole_of self.now) client }
     {
-        self.words[self.seat(lists, id).place(step)]
-    }
-
-    /// The seat at this place.
-    pub fn seat(&self, lists: &Lists, id: usize) -> &Seat
-        requires inside { id < length (whole_of self.now lists.now).views }
-        ensures view { view_of result.now ≡ view_at (whole_of self.now lists.now) id }
-    {
-        &self.seats[id]
-    }
-
-    /// Makes a driver's step, after which it stands as it was decided, and answers.
-    pub fn drive(
-        &mut self,
-        lists: &mut Lists,
-        driver: u8,
-        step: WordStep,
-        decided: Decided,
-    ) -> Reply
-        requires sound { IsSound (whole_of self.old lists.old) }
-        requires low { driver ≤ self.old.setup.drivers }
-        requires may { MayMake (whole_of self.old lists.old) driver step }
-        requires room { RoomAt 1 driver self.old lists.old }
-        ensures reply { result ≡ decided.reply }
-        ensures after { whole_of self.new lists.new ≡ turned (made (whole_of self.old lists.old) driver step) driver decided.turn }
-        ensures setup { self.new.setup ≡ self.old.setup }
-        ensures room { UsesOneAt driver self.old lists.old self.new lists.new }
-    {
-        let id = driver as usize;
-        self.make(lists, id, step);
-        self.turns[id] = decided.turn;
-        decided.reply
+        self.setup.drivers as usize + client as usize
     }
 
     /// Where the driver stands.
-    pub fn turn(&self, lists: &Lists, driver: u8) -> Turn
-        requires sound { IsSound (whole_of self.now lists.now) }
-        requires low { driver ≤ self.now.setup.drivers }
-        ensures value { result ≡ turn_at (whole_of self.now lists.now) driver }
+    pub fn turn(&self, driver: u8) -> Turn
+        requires sound { IsSound (whole_of self.now) }
+        requires driver { HasDriver self.now.setup driver }
+        ensures value { result ≡ turn_at (whole_of self.now) driver }
     {
         self.turns[driver as usize]
     }
-}
 
-// One step of one seat, on the word that it touches and on the lists.
-fn take_step(words: &mut Vec<u64>, seat: &mut Seat, lists: &mut Lists, step: WordStep) -> u64
-    requires ready { IsReady step words.old.items lists.old.batches.items (view_of seat.old) }
-    requires seat { HasRoom 1 seat.old }
-    requires rows { HasRows 1 lists.old }
-    ensures found { result ≡ slice_index words.old.items (word_of step (view_of seat.old)) }
-    ensures words { words.new.items ≡ slice_set words.old.items (word_of step (view_of seat.old)) (word_after step (view_of seat.old) result) }
-    ensures view { view_of seat.new ≡ view_after step result (view_of seat.old) }
-    ensures windows { lists.new.windows.items ≡ windows_after step result (view_of seat.old) lists.old.windows.items }
-    ensures batches { lists.new.batches.items ≡ batches_after step result (view_of seat.old) lists.old.batches.items }
-    ensures seat { UsesOne seat.old seat.new }
-    ensures rows { UsesRow lists.old lists.new }
-{
-    let place = seat.place(step);
-    let found = words[place];
-    words[place] = seat.written(step, found);
-    lists.record(step, found, seat);
-    seat.apply(step, found);
-    found
+    /// What is next for the actor.
+    pub fn due(&self, actor: Actor) -> Due
+        requires sound { IsSound (whole_of self.now) }
+        requires actor { HasActor self.now.setup actor }
+        ensures value { result ≡ due_of (whole_of self.now) actor }
+    {
+        match actor {
+            Actor::Driver(driver) => self.turn(driver).due,
+            Actor::Client(client) => self.seats[self.place(client)].due(),
+            Actor::Store(_) => Due::Rest,
+        }
+    }
+
+    /// Whether this is the driver's next step.
+    pub fn is_driver_at(&self, driver: u8, due: Due) -> bool
+        requires sound { IsSound (whole_of self.now) }
+        requires driver { HasDriver self.now.setup driver }
+        ensures value { result ≡ same_due (turn_at (whole_of self.now) driver).due due }
+    {
+        self.turn(driver).due.is(due)
+    }
+
+    /// Whether this is the client's next step.
+    pub fn is_client_at(&self, client: u8, due: Due) -> bool
+        requires sound { IsSound (whole_of self.now) }
+        requires client { HasClient self.now.setup client }
+        ensures value { result ≡ same_due (due_at (whole_of self.now) client) due }
+    {
+        self.due(Actor::Client(client)).is(due)
+    }
 }

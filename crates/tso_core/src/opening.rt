@@ -1,18 +1,20 @@
 // A new oracle in memory.
-ghost use Rattle.std.specs.Prelude.{◌≡◌, ℕ, ◌+◌, ◌<◌, ◌≤◌, ◌^◌, List, [], ◌++◌, map, replicate, IfOk, OnOk};
+ghost use Rattle.std.specs.Prelude.{◌≡◌, ◌+◌, ◌<◌, ◌≤◌, [], ◌++◌, map, replicate, IfOk, OnOk};
 ghost use Rattle.tso_model.specs.Moves.{numbers_from, first_words};
 ghost use Rattle.tso_model.specs.Sound.{IsSetup};
 ghost use Rattle.tso_core.specs.Due.{at_rest};
-ghost use Rattle.tso_core.specs.Seat.{view_of};
-ghost use Rattle.tso_core.specs.Machine.{waits_in};
+ghost use Rattle.tso_core.specs.Machine.{waits_in, whole_of};
+ghost use Rattle.tso_core.specs.Seated.{view_of};
 ghost use Rattle.tso_core.specs.Whole.{driver_view, client_view};
-ghost use Rattle.tso_core.specs.Opened.{first_views};
+ghost use Rattle.tso_core.specs.Opened.{first_views, opened};
+ghost use Rattle.tso_model.specs.Words.{opening_claim};
 
 use crate::Turn;
 use crate::machine::Machine;
 use crate::post::Post;
+use crate::run::Run;
 use crate::seat::Seat;
-use pd_types::NoMemory;
+use pd_types::{CellWord, NoMemory, Window};
 use std::alloc::Global;
 use tso_model::{Setup, packed};
 
@@ -23,22 +25,20 @@ impl Machine {
     /// All actors at rest.
     pub fn new(alloc: Global, setup: Setup) -> Result<Machine, NoMemory>
         requires setup { IsSetup setup }
-        ensures setup { IfOk result (λ machine. machine.setup ≡ setup) }
-        ensures words { IfOk result (λ machine. machine.words.items ≡ first_words setup) }
-        ensures views { IfOk result (λ machine. map view_of machine.seats.items ≡ first_views setup) }
-        ensures turns { IfOk result (λ machine. machine.turns.items ≡ replicate (setup.drivers + 1) at_rest) }
-        ensures posts { IfOk result (λ machine. map waits_in machine.posts.items ≡ replicate (setup.clients + 1) []) }
+        ensures value { IfOk result (λ machine. whole_of machine ≡ opened setup) }
     {
         let words = opening_words(alloc, setup)?;
         let seats = opening_seats(alloc, setup)?;
         let turns = opening_turns(alloc, setup.drivers)?;
         let posts = opening_posts(alloc, setup.clients)?;
+        let run = Run::new(alloc, opening_window(setup.cell))?;
         Ok(Machine {
             setup,
             words,
             seats,
             turns,
             posts,
+            run,
         })
     }
 }
@@ -89,11 +89,7 @@ fn opening_turns(alloc: Global, drivers: u8) -> Result<Vec<Turn>, NoMemory>
     requires few { drivers ≤ 7 }
     ensures turns { IfOk result (λ turns. turns.items ≡ replicate (drivers + 1) at_rest) }
 {
-    let mut turns = Vec::new(alloc);
-    for _driver in 0..drivers + 1 {
-        turns.push(Turn::rest())?;
-    }
-    Ok(turns)
+    Ok(vec![in alloc; Turn::rest(); drivers as usize + 1]?)
 }
 
 // The first post is nobody's.
@@ -106,4 +102,16 @@ fn opening_posts(alloc: Global, clients: u8) -> Result<Vec<Post>, NoMemory>
         posts.push(Post::new(alloc))?;
     }
     Ok(posts)
+}
+
+// The window that the opening cell names. Nothing was drawn in it.
+fn opening_window(cell: CellWord) -> Window
+    ensures value { result ≡ (opening_claim cell).window }
+{
+    Window {
+        term: cell.term,
+        driver: 0,
+        lo: cell.saved,
+        hi: cell.saved,
+    }
 }

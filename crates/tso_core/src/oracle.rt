@@ -1,6 +1,5 @@
 // The oracle as its callers see it.
-ghost use Rattle.std.specs.Prelude.{◌≡◌, ℕ, ◌<◌, ◌≤◌, List, [], ◌∷◌, IfOk, OnOk, OnErr};
-ghost use Rattle.tso_model.specs.Words.{opening_claim};
+ghost use Rattle.std.specs.Prelude.{◌≡◌, ◌<◌, IfOk, OnOk, OnErr};
 ghost use Rattle.tso_model.specs.Sound.{IsSetup};
 ghost use Rattle.tso_core.specs.Steps.{step_of};
 ghost use Rattle.tso_core.specs.Rows.{lead_of, tick_of, resigned_of, take_of};
@@ -9,10 +8,9 @@ ghost use Rattle.tso_core.specs.Sound.{IsSound, HasDriver, HasClient};
 ghost use Rattle.tso_core.specs.Asked.{HasActor, IsAsked, IsCount};
 ghost use Rattle.tso_core.specs.Opened.{opened};
 
-use crate::lists::Lists;
 use crate::machine::Machine;
-use crate::{Kind, Reply};
-use pd_types::{Actor, Batches, CellWord, NoMemory, Window, Windows};
+use crate::{Due, Kind, Reply};
+use pd_types::{Actor, Batch, CellWord, NoMemory, Window};
 use std::alloc::Global;
 use std::marker::Model;
 use tso_model::Setup;
@@ -24,8 +22,6 @@ use tso_model::Setup;
 pub struct Core {
     alloc: Global,
     machine: Machine,
-    windows: Windows,
-    batches: Batches,
 }
 
 impl Model for Core {
@@ -53,27 +49,21 @@ impl Core {
             cell,
         };
         let machine = Machine::new(alloc, setup)?;
-        let windows = opening_windows(alloc, cell)?;
-        Ok(Core {
-            alloc,
-            machine,
-            windows,
-            batches: Batches::new(alloc),
-        })
+        Ok(Core { alloc, machine })
     }
 
     /// The windows of the run, by rising term; the opening one is the first.
-    pub fn windows(&self) -> &Windows
+    pub fn windows(&self) -> &[Window]
         ensures value { result.now ≡ self.now.windows }
     {
-        &self.windows
+        self.machine.run.windows()
     }
 
     /// The batches of the run, by term and then by their timestamps.
-    pub fn batches(&self) -> &Batches
+    pub fn batches(&self) -> &[Batch]
         ensures value { result.now ≡ self.now.batches }
     {
-        &self.batches
+        self.machine.run.batches()
     }
 
     /// One atomic step of an actor. `OutOfTurn` names the step that is next, where that is another
@@ -87,10 +77,21 @@ impl Core {
         ensures sound { IsSound self.new }
         ensures setup { self.new.setup ≡ self.old.setup }
     {
-        let mut lists = Lists::borrow(self.alloc, &mut self.windows, &mut self.batches);
-        let reply = self.machine.step(&mut lists, actor, kind);
-        lists.give_back(&mut self.windows, &mut self.batches);
-        reply
+        let due = self.machine.due(actor);
+        if !kind.due().is(due) {
+            return Ok(Reply::OutOfTurn { expected: due });
+        }
+        match actor {
+            Actor::Driver(driver) => {
+                self.machine.reserve(driver as usize, 1)?;
+                Ok(self.machine.driver_step(driver, kind))
+            }
+            Actor::Client(client) => {
+                self.machine.reserve(self.machine.place(client), 1)?;
+                Ok(self.machine.client_step(client, kind))
+            }
+            Actor::Store(_) => Ok(Reply::OutOfTurn { expected: due }),
+        }
     }
 
     /// A driver campaigns at a moment, in milliseconds: a read, a campaign, a save, a raise and a
@@ -103,10 +104,12 @@ impl Core {
         ensures sound { IsSound self.new }
         ensures setup { self.new.setup ≡ self.old.setup }
     {
-        let mut lists = Lists::borrow(self.alloc, &mut self.windows, &mut self.batches);
-        let reply = self.machine.lead(&mut lists, driver, now);
-        lists.give_back(&mut self.windows, &mut self.batches);
-        reply
+        let due = self.machine.turn(driver).due;
+        if !due.is(Due::Rest) {
+            return Ok(Reply::OutOfTurn { expected: due });
+        }
+        self.machine.reserve(driver as usize, 5)?;
+        Ok(self.machine.lead(driver, now))
     }
 
     /// A driver that leads goes on with the clock, at a moment in milliseconds: a probe, at times a
@@ -119,10 +122,12 @@ impl Core {
         ensures sound { IsSound self.new }
         ensures setup { self.new.setup ≡ self.old.setup }
     {
-        let mut lists = Lists::borrow(self.alloc, &mut self.windows, &mut self.batches);
-        let reply = self.machine.tick(&mut lists, driver, now);
-        lists.give_back(&mut self.windows, &mut self.batches);
-        reply
+        let due = self.machine.turn(driver).due;
+        if !due.is(Due::Rest) {
+            return Ok(Reply::OutOfTurn { expected: due });
+        }
+        self.machine.reserve(driver as usize, 4)?;
+        Ok(self.machine.tick(driver, now))
     }
 
     /// A driver gives up its term. `OutOfTurn` where it is not at rest.
@@ -134,10 +139,12 @@ impl Core {
         ensures sound { IsSound self.new }
         ensures setup { self.new.setup ≡ self.old.setup }
     {
-        let mut lists = Lists::borrow(self.alloc, &mut self.windows, &mut self.batches);
-        let reply = self.machine.resign(&mut lists, driver);
-        lists.give_back(&mut self.windows, &mut self.batches);
-        reply
+        let due = self.machine.turn(driver).due;
+        if !due.is(Due::Rest) {
+            return Ok(Reply::OutOfTurn { expected: due });
+        }
+        self.machine.reserve(driver as usize, 1)?;
+        Ok(self.machine.driver_step(driver, Kind::Resign))
     }
 
     /// A client asks a driver for `n` timestamps, 1 to 262,143: a look, an arm and a draw in a row,
@@ -152,10 +159,12 @@ impl Core {
         ensures sound { IsSound self.new }
         ensures setup { self.new.setup ≡ self.old.setup }
     {
-        let mut lists = Lists::borrow(self.alloc, &mut self.windows, &mut self.batches);
-        let reply = self.machine.take(&mut lists, client, driver, n);
-        lists.give_back(&mut self.windows, &mut self.batches);
-        reply
+        let due = self.machine.due(Actor::Client(client));
+        if !due.is(Due::Rest) {
+            return Ok(Reply::OutOfTurn { expected: due });
+        }
+        self.machine.reserve(self.machine.place(client), 3)?;
+        Ok(self.machine.take(client, driver, n))
     }
 
     /// A client leaves a note of what it has seen for another client, or for itself. `OutOfTurn` where
@@ -169,10 +178,12 @@ impl Core {
         ensures sound { IsSound self.new }
         ensures setup { self.new.setup ≡ self.old.setup }
     {
-        let lists = Lists::borrow(self.alloc, &mut self.windows, &mut self.batches);
-        let reply = self.machine.tell(&lists, self.alloc, from, to);
-        lists.give_back(&mut self.windows, &mut self.batches);
-        reply
+        let due = self.machine.due(Actor::Client(from));
+        if !due.is(Due::Rest) {
+            return Ok(Reply::OutOfTurn { expected: due });
+        }
+        self.machine.leave(self.alloc, from, to)?;
+        Ok(Reply::Told)
     }
 
     /// A client hears the oldest note that was left for it, or `Nothing` where none is left.
@@ -185,23 +196,11 @@ impl Core {
         ensures sound { IsSound self.new }
         ensures setup { self.new.setup ≡ self.old.setup }
     {
-        let mut lists = Lists::borrow(self.alloc, &mut self.windows, &mut self.batches);
-        let reply = self.machine.hear(&mut lists, client);
-        lists.give_back(&mut self.windows, &mut self.batches);
-        reply
+        let due = self.machine.due(Actor::Client(client));
+        if due.is(Due::Rest) {
+            self.machine.reserve(self.machine.place(client), 1)?;
+            return Ok(self.machine.meet(client));
+        }
+        Ok(Reply::OutOfTurn { expected: due })
     }
-}
-
-// The window that the opening cell names. Nothing was drawn in it.
-fn opening_windows(alloc: Global, cell: CellWord) -> Result<Windows, NoMemory>
-    ensures value { IfOk result (λ windows. windows ≡ (opening_claim cell).window ∷ []) }
-{
-    let mut windows = Windows::new(alloc);
-    windows.push(Window {
-        term: cell.term,
-        driver: 0,
-        lo: cell.saved,
-        hi: cell.saved,
-    })?;
-    Ok(windows)
 }

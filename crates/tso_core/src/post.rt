@@ -1,5 +1,5 @@
 // The notes that wait for a client.
-ghost use Rattle.std.specs.Prelude.{◌≡◌, ℕ, List, [], ◌∷◌, ◌++◌, drop, MatchOption, OnOk, OnErr};
+ghost use Rattle.std.specs.Prelude.{◌≡◌, [], ◌∷◌, ◌++◌, MatchOption, IfNone, OnOk, OnErr};
 
 use pd_types::NoMemory;
 use std::alloc::Global;
@@ -21,13 +21,6 @@ impl Post {
         }
     }
 
-    /// The oldest note.
-    pub fn oldest(&self) -> Option<usize>
-        ensures value { MatchOption result (self.now.notes.items ≡ []) (λ note. self.now.notes.items ≡ note ∷ drop 1 self.now.notes.items) }
-    {
-        self.notes.front().copied()
-    }
-
     /// One more note waits. Want of memory leaves the post.
     pub fn leave(&mut self, note: usize) -> Result<(), NoMemory>
         ensures ok { OnOk result (self.new.notes.items ≡ self.old.notes.items ++ note ∷ []) }
@@ -37,10 +30,11 @@ impl Post {
         Ok(())
     }
 
-    /// The oldest note waits no more.
-    pub fn take(&mut self)
-        ensures notes { self.new.notes.items ≡ drop 1 self.old.notes.items }
+    /// The oldest note, which waits no more.
+    pub fn take(&mut self) -> Option<usize>
+        ensures oldest { MatchOption result (self.old.notes.items ≡ []) (λ note. self.old.notes.items ≡ note ∷ self.new.notes.items) }
+        ensures none { IfNone result (self.new.notes.items ≡ []) }
     {
-        self.notes.pop_front();
+        self.notes.pop_front()
     }
 }

@@ -80,10 +80,7 @@ impl Kind {
             Kind::Publish => Due::Publish,
             Kind::Arm { .. } => Due::Arm,
             Kind::Draw => Due::Draw,
-            Kind::Read { .. } => Due::Rest,
-            Kind::Probe { .. } => Due::Rest,
-            Kind::Resign => Due::Rest,
-            Kind::Look { .. } => Due::Rest,
+            Kind::Read { .. } | Kind::Probe { .. } | Kind::Resign | Kind::Look { .. } => Due::Rest,
         }
     }
 }

@@ -225,13 +225,13 @@ fn a_note_makes_an_old_limit_stale(rt: HostRuntime) -> Result<(), Fail> {
 
     // A batch of an old term stands before those of the later one.
     let lasts = [262_144_003, 262_144_005, 1_048_838_145];
-    let batches = core.batches().as_slice();
+    let batches = core.batches();
     assert_eq!(rt; batches.len(), 3);
     for (batch, last) in batches.iter().zip(lasts) {
         assert_eq!(rt; batch.last, last);
     }
     let ends = [0, 4000, 7001];
-    let windows = core.windows().as_slice();
+    let windows = core.windows();
     assert_eq!(rt; windows.len(), 3);
     for (window, hi) in windows.iter().zip(ends) {
         assert_eq!(rt; window.hi, hi);

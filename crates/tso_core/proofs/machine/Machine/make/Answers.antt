@@ -1,52 +1,106 @@
-use Rattle.std.proofs.Common.{◌≡◌, set, map, sym, subst, ap, ◌∙◌, arith}
-use Rattle.std.proofs.lemmas.List.{map-set, length-map}
+use Rattle.std.proofs.Common.{◌≡◌, ℕ, set, map, ap, ◌∙◌, arith}
+use Rattle.std.proofs.lemmas.List.{map-set}
 use Rattle.std.specs.Prelude.{slice_index}
-use mathlib.Core.Option.{some, some-injective}
 use Rattle.tso_model.specs.declared.view.View.{View}
-use Rattle.tso_model.specs.Moves.{spent_view}
-use Rattle.tso_model.specs.Steps.{word_of}
-use Rattle.tso_core.specs.declared.seat.Seat.{Seat}
-use Rattle.tso_core.specs.Seat.{view_of, IsReady, HasRoom}
+use Rattle.tso_model.specs.Steps.{word_of, word_after}
+use Rattle.tso_core.specs.declared.done.Done.{Done}
+use Rattle.tso_core.specs.Done.{done_of, windows_kept, batches_kept}
 use Rattle.tso_core.specs.Machine.{whole_of}
-use Rattle.tso_core.specs.Whole.{view_at}
-use Rattle.tso_core.proofs.Ready.{ready}
+use Rattle.tso_core.specs.Ran.{Ran}
+use Rattle.tso_core.specs.Ready.{IsReady}
+use Rattle.tso_core.specs.Seated.{Seated, view_of}
+use Rattle.tso_core.specs.Whole.{view_at, found_by}
+use Rattle.tso_core.proofs.Doing.{windows_by, batches_by}
 use Rattle.tso_core.proofs.Made.{made_is}
-use Rattle.tso_core.proofs.Places.{at_get, get_mapped, set_here}
+use Rattle.tso_core.proofs.Places.{get_any}
+use Rattle.tso_core.proofs.Ready.{ready, seat_view}
 use Rattle.tso_core.proofs.machine.Machine.make.Goals as goal
 
+pub index-found-requires : goal.index-found-requires
+index-found-requires c =
+    let w = whole_of c.args.self.now in
+    let v = c.index_mut-seat.result.now.view in
+    let same : v ≡ view_at w c.args.id = seat_view c.args.self.now.seats.items c.args.id c.index_mut-seat.result.now c.requires.may.inside c.index_mut-seat.ensures.value in
+    let fits : IsReady c.args.step w.words w.batches v = ready w c.args.id c.args.step v same c.requires.sound c.requires.may in
+    omega (arith, c.place-place.ensures.value, fits.place)
+
+pub written-requires : goal.written-requires
+written-requires c =
+    let w = whole_of c.args.self.now in
+    let v = c.index_mut-seat.result.now.view in
+    let same : v ≡ view_at w c.args.id = seat_view c.args.self.now.seats.items c.args.id c.index_mut-seat.result.now c.requires.may.inside c.index_mut-seat.ensures.value in
+    let fits : IsReady c.args.step w.words w.batches v = ready w c.args.id c.args.step v same c.requires.sound c.requires.may in
+    record { suits = fits.suits }
+
 pub index_mut-requires : goal.index_mut-requires
-index_mut-requires c = omega (arith, length-map c.args.self.now.seats.items view_of, c.requires.may.inside)
+index_mut-requires c =
+    let w = whole_of c.args.self.now in
+    let v = c.index_mut-seat.result.now.view in
+    let same : v ≡ view_at w c.args.id = seat_view c.args.self.now.seats.items c.args.id c.index_mut-seat.result.now c.requires.may.inside c.index_mut-seat.ensures.value in
+    let fits : IsReady c.args.step w.words w.batches v = ready w c.args.id c.args.step v same c.requires.sound c.requires.may in
+    omega (arith, c.place-place.ensures.value, fits.place)
 
-pub take_step-requires-clause-ready : goal.take_step-requires-clause-ready
-take_step-requires-clause-ready c =
-    let w = whole_of c.args.self.now c.args.lists.now in
-    let same : view_of c.index_mut.result.now ≡ view_at w c.args.id = get_mapped view_of c.args.self.now.seats.items c.args.id c.index_mut.result.now spent_view (omega (arith, length-map c.args.self.now.seats.items view_of, c.requires.may.inside)) c.index_mut.ensures.value in
-    subst (λ (v : View). IsReady c.args.step c.args.self.now.words.items c.args.lists.now.batches.items v) (sym same)
-    (ready w c.args.id c.args.step c.requires.sound c.requires.may.inside c.requires.may.live c.requires.may.quota c.requires.may.may)
+pub make-done-requires-clause-suits : goal.make-done-requires-clause-suits
+make-done-requires-clause-suits c =
+    let w = whole_of c.args.self.now in
+    let v = c.index_mut-seat.result.now.view in
+    let same : v ≡ view_at w c.args.id = seat_view c.args.self.now.seats.items c.args.id c.index_mut-seat.result.now c.requires.may.inside c.index_mut-seat.ensures.value in
+    let fits : IsReady c.args.step w.words w.batches v = ready w c.args.id c.args.step v same c.requires.sound c.requires.may in
+    fits.suits
 
-pub take_step-requires-clause-seat : goal.take_step-requires-clause-seat
-take_step-requires-clause-seat c = c.requires.room.seat c.index_mut.result.now (at_get c.args.self.now.seats.items c.args.id c.index_mut.result.now (omega (arith, length-map c.args.self.now.seats.items view_of, c.requires.may.inside)) ∙ ap some (sym c.index_mut.ensures.value))
+pub make-done-requires-clause-found : goal.make-done-requires-clause-found
+make-done-requires-clause-found c =
+    let w = whole_of c.args.self.now in
+    let v = c.index_mut-seat.result.now.view in
+    let same : v ≡ view_at w c.args.id = seat_view c.args.self.now.seats.items c.args.id c.index_mut-seat.result.now c.requires.may.inside c.index_mut-seat.ensures.value in
+    let fits : IsReady c.args.step w.words w.batches v = ready w c.args.id c.args.step v same c.requires.sound c.requires.may in
+    let n = c.index-found.result.now in
+    let at = c.place-place.result in
+    let found : n ≡ slice_index w.words (word_of c.args.step v) = c.index-found.ensures ∙ get_any w.words at n 0 (omega (arith, c.place-place.ensures.value, fits.place)) ∙ ap (λ (p : ℕ). slice_index w.words p) c.place-place.ensures.value in
+    omega (arith, found, fits.found)
+
+pub keep-requires-clause-sorted : goal.keep-requires-clause-sorted
+keep-requires-clause-sorted c =
+    let w = whole_of c.args.self.now in
+    let v = c.index_mut-seat.result.now.view in
+    let same : v ≡ view_at w c.args.id = seat_view c.args.self.now.seats.items c.args.id c.index_mut-seat.result.now c.requires.may.inside c.index_mut-seat.ensures.value in
+    let fits : IsReady c.args.step w.words w.batches v = ready w c.args.id c.args.step v same c.requires.sound c.requires.may in
+    fits.sorted
 
 pub returns-clause-found : goal.returns-clause-found
 returns-clause-found c =
-    let w = whole_of c.args.self.now c.args.lists.now in
-    let same : view_of c.index_mut.result.now ≡ view_at w c.args.id = get_mapped view_of c.args.self.now.seats.items c.args.id c.index_mut.result.now spent_view (omega (arith, length-map c.args.self.now.seats.items view_of, c.requires.may.inside)) c.index_mut.ensures.value in
-    c.take_step.ensures.found ∙ ap (λ (v : View). slice_index c.args.self.now.words.items (word_of c.args.step v)) same
+    let w = whole_of c.args.self.now in
+    let v = c.index_mut-seat.result.now.view in
+    let same : v ≡ view_at w c.args.id = seat_view c.args.self.now.seats.items c.args.id c.index_mut-seat.result.now c.requires.may.inside c.index_mut-seat.ensures.value in
+    let fits : IsReady c.args.step w.words w.batches v = ready w c.args.id c.args.step v same c.requires.sound c.requires.may in
+    let n = c.index-found.result.now in
+    let at = c.place-place.result in
+    let found : n ≡ slice_index w.words (word_of c.args.step v) = c.index-found.ensures ∙ get_any w.words at n 0 (omega (arith, c.place-place.ensures.value, fits.place)) ∙ ap (λ (p : ℕ). slice_index w.words p) c.place-place.ensures.value in
+    found ∙ ap (λ (u : View). slice_index w.words (word_of c.args.step u)) same
+
+pub returns-clause-done : goal.returns-clause-done
+returns-clause-done c =
+    let w = whole_of c.args.self.now in
+    let v = c.index_mut-seat.result.now.view in
+    let same : v ≡ view_at w c.args.id = seat_view c.args.self.now.seats.items c.args.id c.index_mut-seat.result.now c.requires.may.inside c.index_mut-seat.ensures.value in
+    let fits : IsReady c.args.step w.words w.batches v = ready w c.args.id c.args.step v same c.requires.sound c.requires.may in
+    let n = c.index-found.result.now in
+    let at = c.place-place.result in
+    let found : n ≡ slice_index w.words (word_of c.args.step v) = c.index-found.ensures ∙ get_any w.words at n 0 (omega (arith, c.place-place.ensures.value, fits.place)) ∙ ap (λ (p : ℕ). slice_index w.words p) c.place-place.ensures.value in
+    c.make-done.ensures.done ∙ ap (λ (m : ℕ). done_of c.args.step m v) (found ∙ ap (λ (u : View). slice_index w.words (word_of c.args.step u)) same) ∙ ap (λ (u : View). done_of c.args.step (found_by w c.args.id c.args.step) u) same
 
 pub returns-clause-after : goal.returns-clause-after
 returns-clause-after c =
-    let w = whole_of c.args.self.now c.args.lists.now in
-    let same : view_of c.index_mut.result.now ≡ view_at w c.args.id = get_mapped view_of c.args.self.now.seats.items c.args.id c.index_mut.result.now spent_view (omega (arith, length-map c.args.self.now.seats.items view_of, c.requires.may.inside)) c.index_mut.ensures.value in
-    made_is w c.args.id c.args.step (view_of c.index_mut.result.now) c.take_step.result c.take_step.new.words.items (map view_of (set c.args.self.now.seats.items c.args.id c.take_step.new.seat)) c.take_step.new.lists.windows.items c.take_step.new.lists.batches.items
-    same c.take_step.ensures.found c.take_step.ensures.words
-    (map-set view_of c.args.self.now.seats.items c.args.id c.take_step.new.seat ∙ ap (λ (v : View). set (map view_of c.args.self.now.seats.items) c.args.id v) c.take_step.ensures.view)
-    c.take_step.ensures.windows c.take_step.ensures.batches
-
-pub returns-clause-room : goal.returns-clause-room
-returns-clause-room c n room = record {
-  seat = λ s at.
-      let is : c.take_step.new.seat ≡ s = some-injective c.take_step.new.seat s (sym (set_here c.args.self.now.seats.items c.args.id c.take_step.new.seat (omega (arith, length-map c.args.self.now.seats.items view_of, c.requires.may.inside))) ∙ at) in
-      subst (λ (t : Seat). HasRoom n t) is
-      (c.take_step.ensures.seat n (room.seat c.index_mut.result.now (at_get c.args.self.now.seats.items c.args.id c.index_mut.result.now (omega (arith, length-map c.args.self.now.seats.items view_of, c.requires.may.inside)) ∙ ap some (sym c.index_mut.ensures.value))));
-  rows = c.take_step.ensures.rows n room.rows;
-}
+    let w = whole_of c.args.self.now in
+    let v = c.index_mut-seat.result.now.view in
+    let same : v ≡ view_at w c.args.id = seat_view c.args.self.now.seats.items c.args.id c.index_mut-seat.result.now c.requires.may.inside c.index_mut-seat.ensures.value in
+    let fits : IsReady c.args.step w.words w.batches v = ready w c.args.id c.args.step v same c.requires.sound c.requires.may in
+    let n = c.index-found.result.now in
+    let at = c.place-place.result in
+    let found : n ≡ slice_index w.words (word_of c.args.step v) = c.index-found.ensures ∙ get_any w.words at n 0 (omega (arith, c.place-place.ensures.value, fits.place)) ∙ ap (λ (p : ℕ). slice_index w.words p) c.place-place.ensures.value in
+    let seats = c.args.self.now.seats.items in
+    made_is w c.args.id c.args.step v n (set w.words at c.written.result) (map view_of (set seats c.args.id c.make-done.new.self)) c.keep.new.self.windows c.keep.new.self.batches same found
+    (ap (λ (x : ℕ). set w.words at x) c.written.ensures.value ∙ ap (λ (p : ℕ). set w.words p (word_after c.args.step v n)) c.place-place.ensures.value)
+    (map-set view_of seats c.args.id c.make-done.new.self ∙ ap (λ (s : Seated). set (map view_of seats) c.args.id s.view) c.make-done.ensures.after)
+    (ap (λ (r : Ran). r.windows) c.keep.ensures.after ∙ ap (λ (d : Done). windows_kept d w.windows) c.make-done.ensures.done ∙ windows_by c.args.step n v w.windows)
+    (ap (λ (r : Ran). r.batches) c.keep.ensures.after ∙ ap (λ (d : Done). batches_kept d w.batches) c.make-done.ensures.done ∙ batches_by c.args.step n v w.batches)

@@ -1,19 +1,10 @@
-use Rattle.std.proofs.Common.{◌≡◌, ap, subst, ◌∙◌}
-use Rattle.std.specs.Prelude.{IfOk}
-use Rattle.std.proofs.lemmas.Result.{on_ok_weaker}
-use Rattle.tso_core.specs.Machine.{whole_of}
-use Rattle.tso_core.specs.Whole.{Whole}
+use Rattle.std.proofs.Common.{ap, ◌∙◌}
 use Rattle.tso_core.specs.Rows.{lead_of}
+use Rattle.tso_core.specs.Whole.{Whole}
 use Rattle.tso_core.proofs.oracle.Core.lead.Goals as goal
 
 pub returns-clause-reply : goal.returns-clause-reply
-returns-clause-reply c =
-    let w : Whole = whole_of c.self.inside.machine c.borrow-lists.result in
-    let is : w ≡ c.args.self.now = (λ i. record (whole_of c.self.inside.machine c.borrow-lists.result) { windows = c.borrow-lists.ensures.windows i; batches = c.borrow-lists.ensures.batches i }) ∙ c.self.view_is in
-    subst (λ (x : Whole). IfOk c.lead-reply.result (λ reply. reply ≡ (lead_of x c.args.driver c.args.now).reply)) is c.lead-reply.ensures.reply
+returns-clause-reply c = c.lead.ensures.answers.reply ∙ ap (λ (w : Whole). (lead_of w c.args.driver c.args.now).reply) (c.reserve.ensures.whole ∙ c.self.view_is)
 
 pub returns-clause-after : goal.returns-clause-after
-returns-clause-after c =
-    let w : Whole = whole_of c.self.inside.machine c.borrow-lists.result in
-    let is : w ≡ c.args.self.now = (λ i. record (whole_of c.self.inside.machine c.borrow-lists.result) { windows = c.borrow-lists.ensures.windows i; batches = c.borrow-lists.ensures.batches i }) ∙ c.self.view_is in
-    on_ok_weaker c.lead-reply.result (λ after. (λ i. record (whole_of c.lead-reply.new.self c.lead-reply.new.lists) { windows = c.give_back.ensures.windows i; batches = c.give_back.ensures.batches i }) ∙ after ∙ ap (λ (x : Whole). (lead_of x c.args.driver c.args.now).after) is) c.lead-reply.ensures.after
+returns-clause-after c = c.lead.ensures.answers.after ∙ ap (λ (w : Whole). (lead_of w c.args.driver c.args.now).after) (c.reserve.ensures.whole ∙ c.self.view_is)

@@ -5,21 +5,10 @@ use Rattle.tso_core.specs.Sound.{IsSound}
 use Rattle.tso_core.proofs.Started.{opened_sound}
 use Rattle.tso_core.proofs.oracle.Core.new.Goals as goal
 
-pub returns-clause-value : goal.returns-clause-value
-returns-clause-value c = λ i. record {
-  setup = c.in_ok-machine.ensures.setup i;
-  words = c.in_ok-machine.ensures.words i;
-  views = c.in_ok-machine.ensures.views i;
-  turns = c.in_ok-machine.ensures.turns i;
-  posts = c.in_ok-machine.ensures.posts i;
-  windows = c.in_ok-windows.ensures.value i;
-  batches = c.new-2.ensures.value i;
-}
-
 pub returns-clause-sound : goal.returns-clause-sound
 returns-clause-sound c =
     let k : Setup = record { drivers = c.args.drivers; clients = c.args.clients; cell = c.args.cell } in
-    subst (λ (x : Whole). IsSound x) (sym (returns-clause-value c)) (opened_sound k c.requires.setup)
+    subst (λ (x : Whole). IsSound x) (sym c.in_ok-machine.ensures.value) (opened_sound k c.requires.setup)
 
 pub invariant_of-result : goal.invariant_of-result
 invariant_of-result c = returns-clause-sound c

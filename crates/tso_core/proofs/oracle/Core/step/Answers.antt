@@ -1,19 +1,14 @@
-use Rattle.std.proofs.Common.{◌≡◌, ap, subst, ◌∙◌}
-use Rattle.std.specs.Prelude.{IfOk}
-use Rattle.std.proofs.lemmas.Result.{on_ok_weaker}
-use Rattle.tso_core.specs.Machine.{whole_of}
+use Rattle.std.proofs.Common.{ap, sym, ◌∙◌}
+use Rattle.tso_core.specs.Due.{same_due, due_for}
+use Rattle.tso_core.specs.Steps.{Stepped, due_of}
 use Rattle.tso_core.specs.Whole.{Whole}
-use Rattle.tso_core.specs.Steps.{step_of}
+use Rattle.tso_core.specs.declared.reply.Due.{Due}
+use Rattle.tso_core.specs.declared.reply.Reply.TheVariants.{OutOfTurn}
+use Rattle.tso_core.proofs.Rests.{step_else}
 use Rattle.tso_core.proofs.oracle.Core.step.Goals as goal
 
-pub returns-clause-reply : goal.returns-clause-reply
-returns-clause-reply c =
-    let w : Whole = whole_of c.self.inside.machine c.borrow-lists.result in
-    let is : w ≡ c.args.self.now = (λ i. record (whole_of c.self.inside.machine c.borrow-lists.result) { windows = c.borrow-lists.ensures.windows i; batches = c.borrow-lists.ensures.batches i }) ∙ c.self.view_is in
-    subst (λ (x : Whole). IfOk c.step-reply.result (λ reply. reply ≡ (step_of x c.args.actor c.args.kind).reply)) is c.step-reply.ensures.reply
-
-pub returns-clause-after : goal.returns-clause-after
-returns-clause-after c =
-    let w : Whole = whole_of c.self.inside.machine c.borrow-lists.result in
-    let is : w ≡ c.args.self.now = (λ i. record (whole_of c.self.inside.machine c.borrow-lists.result) { windows = c.borrow-lists.ensures.windows i; batches = c.borrow-lists.ensures.batches i }) ∙ c.self.view_is in
-    on_ok_weaker c.step-reply.result (λ after. (λ i. record (whole_of c.step-reply.new.self c.step-reply.new.lists) { windows = c.give_back.ensures.windows i; batches = c.give_back.ensures.batches i }) ∙ after ∙ ap (λ (x : Whole). (step_of x c.args.actor c.args.kind).after) is) c.step-reply.ensures.after
+pub returns-then-not-is-clause-reply : goal.returns-then-not-is-clause-reply
+returns-then-not-is-clause-reply c =
+    let due = c.due-due.ensures.value ∙ ap (λ (w : Whole). due_of w c.args.actor) c.self.view_is in
+    ap (λ (e : Due). OutOfTurn e) due
+    ∙ ap (λ (r : Stepped). r.reply) (sym (step_else c.args.self.now c.args.actor c.args.kind (ap (λ (e : Due). same_due (due_for c.args.kind) e) (sym due) ∙ ap (λ (e : Due). same_due e c.due-due.result) (sym c.due.ensures.value) ∙ sym c.is.ensures.value ∙ c.if-not-is.true)))

@@ -1,0 +1,58 @@
+-- What a step asks of a view and of the words, so that no number is out of range.
+use Rattle.std.specs.Prelude.{ℕ, ◌+◌, ◌<◌, ◌≤◌, ◌^◌, List, [], ◌∷◌, ◌++◌, length, slice_index}
+use Rattle.std.specs.List.Sorted.{IsNonDecreasingBy}
+use Rattle.pd_types.specs.declared.oracle.Batch.{Batch}
+use Rattle.pd_types.specs.declared.oracle.Seen.{Seen}
+use Rattle.tso_model.specs.declared.view.View.{View}
+use Rattle.tso_model.specs.declared.step.WordStep.{WordStep}
+use Rattle.tso_model.specs.declared.step.WordStep.TheVariants.{LoadCell, ClaimTerm, SaveEnd, RaiseCursor, StoreLimit, ClearLimit, LoadLimit, ArmCount, AddArmed}
+use Rattle.tso_model.specs.History.{added_by}
+use Rattle.tso_model.specs.Moves.{greater}
+use Rattle.tso_model.specs.Steps.{refused, adds, held, hand, word_of}
+
+-- the view that heard a note with this pair
+abbrev pub heard : Seen → View → View
+heard seen v = record v {
+  took_drivers = v.took_drivers ++ 0 ∷ [];
+  took_clients = v.took_clients ++ 0 ∷ [];
+  seen = greater v.seen seen;
+}
+
+-- the view whose armed count is added and refused at the cursor `at`
+abbrev pub overshot : ℕ → View → View
+overshot at v = record (refused at v.armed v) { added = (adds v).added }
+
+-- the cell that it knows is in range
+pub record CellFits (v : View) : Type 0 where
+  pub saved : v.cell.saved < 2 ^ 45
+  pub term : v.cell.term < 262144
+
+-- its latest window is in range
+pub record HeldFits (v : View) : Type 0 where
+  pub hi : (held v).hi < 2 ^ 45
+  pub term : (held v).term < 262144
+
+-- the limit in hand and what is armed are in range
+pub record HandFits (v : View) : Type 0 where
+  pub hi : (hand v).hi < 2 ^ 45
+  pub driver : (hand v).driver < 8
+  pub armed : v.armed ≤ 262144
+
+-- what the step uses of the view is in range, and so is its own number
+abbrev pub Suits : WordStep → View → Type 0
+Suits LoadCell v = Unit {0}
+Suits ClaimTerm v = CellFits v × (v.cell.term < 262143)
+Suits (SaveEnd hi) v = HeldFits v × (hi < 2 ^ 45)
+Suits (RaiseCursor at) v = Unit {0}
+Suits StoreLimit v = HeldFits v
+Suits ClearLimit v = Unit {0}
+Suits (LoadLimit d) v = Unit {0}
+Suits (ArmCount n) v = HandFits v × (n < 262144)
+Suits AddArmed v = HandFits v × (added_by v.client (hand v).driver v.added + v.armed < 2 ^ 64)
+
+-- the step can be made without a number out of range, where it finds this word and these batches
+pub record IsReady (step : WordStep) (words : List ℕ) (batches : List Batch) (v : View) : Type 0 where
+  pub place : word_of step v < length words
+  pub suits : Suits step v
+  pub found : slice_index words (word_of step v) < 2 ^ 63 + 2 ^ 26
+  pub sorted : IsNonDecreasingBy (λ (b : Batch). b.term) batches
