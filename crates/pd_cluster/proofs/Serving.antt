@@ -1,5 +1,5 @@
 -- What a cluster that served a request means among the journals.
-use Rattle.std.proofs.Common.{◌≡◌, ◌≢◌, ◌≤◌, ◌⊎◌, inl, inr, Bool, true, nat_eq, length-set, ℕ, zero, suc, ◌+◌, ◌<◌, List, [], ◌∷◌, ◌++◌, false, length, get_or, replicate, set, reverse, length-append, refl, sym, ap, ◌∙◌, arith}
+use Rattle.std.proofs.Common.{◌≡◌, ◌≢◌, ◌≤◌, ◌⊎◌, inl, inr, Bool, true, nat_eq, length-set, ℕ, zero, suc, ◌+◌, ◌<◌, List, [], ◌∷◌, ◌++◌, false, length, get_or, replicate, set, reverse, length-append, append_assoc, append-nil, Some, refl, sym, ap, ◌∙◌, arith}
 use Rattle.std.specs.Prelude.{IfOk, OnOk, None, Option, Result, Ok, Err}
 use Rattle.std.proofs.Math.Seq.{get_or-append_seam}
 use Rattle.std.proofs.lemmas.Bool.Decides.{nat_tests}
@@ -12,7 +12,18 @@ use Rattle.pd_state.specs.Legal.{first_reply}
 use Rattle.pd_state.specs.State.{part_after}
 use Rattle.pd_state.specs.declared.entry.Entry.{Entry}
 use Rattle.pd_state.specs.declared.reply.Reply.{Reply}
-use Rattle.pd_cluster.specs.Clusters.{AreAlive, AreNumbered, journals_of, past_of}
+use Rattle.meta_store.specs.declared.record.MetaAnswer.{MetaAnswer}
+use Rattle.meta_store.specs.declared.record.MetaCall.{MetaCall}
+use Rattle.meta_store.specs.declared.record.MetaEntry.{MetaEntry}
+use Rattle.meta_store.specs.Asked.{AreAsked}
+use Rattle.meta_store.specs.Doors.{said_of}
+use Rattle.meta_store.specs.Past.{entry_of as meta_entry, noted, verdict_of}
+use Rattle.pd_state.specs.Calls.{next_call}
+use Rattle.pd_state.specs.Clusters.{Spoken}
+use Rattle.pd_state.specs.Heard.{told_all}
+use Rattle.pd_state.proofs.CallLemmas.{two_calls}
+use Rattle.pd_cluster.specs.Clusters.{AreAlive, AreNumbered, journals_of, kept_of, past_of}
+use Rattle.pd_cluster.specs.Metadata.{answer_to, answers_from, answers_to, with_answers, with_call}
 use Rattle.pd_types.specs.declared.oracle.CellWord.{CellWord}
 use Rattle.pd_script.specs.declared.act.Line.{Line}
 use Rattle.pd_script.specs.declared.script.Script.{Script}
@@ -22,37 +33,121 @@ use Rattle.tso_core.specs.declared.reply.Reply.{Reply as Answered}
 use Rattle.pd_cluster.specs.declared.lead.BegunLead.{BegunLead}
 use Rattle.pd_cluster.specs.Answers.{driver_in, opening_cell}
 use Rattle.pd_script.specs.Scripts.{asker}
-use Rattle.pd_cluster.specs.Replay.{State, act_step, asked_besides, lead_after, lead_at, oracle_line, past_at, served, start, with_besides, with_served}
+use Rattle.pd_cluster.specs.Replay.{answers_at, Kept, State, act_step, asked_besides, lead_after, lead_at, oracle_line, past_at, served, start, with_besides, with_served}
 
 -- an entry, by its parts
-abbrev entry_of : Actor → ℕ → Request → Reply → Entry
-entry_of actor line request reply = record { actor = actor; line = line; request = request; reply = reply }
+abbrev entry_of : Actor → ℕ → Request → List MetaAnswer → Reply → Entry
+entry_of actor line request answers reply = record { actor = actor; line = line; request = request; answers = answers; reply = reply }
 
-module _ (old new : ClusterValue) (actor : Actor) (line : ℕ) (request : Request) (reply : Reply) (s : Served old new actor line request reply) where
-  its_past : past_of new ≡ entry_of actor line request reply ∷ past_of old
-  its_past = ap reverse s.appended ∙ reverse-append old.entries (entry_of actor line request reply ∷ [])
+-- the answers that the metadata gives to calls in a row
+answers_given : List MetaEntry → ℕ → List MetaAnswer → List MetaAnswer
+answers_given past driver [] = []
+answers_given past driver (a ∷ answers) = answer_to past a.call ∷ answers_given (with_call past driver a.call) driver answers
 
-  its_reply : reply ≡ first_reply (part_after (past_of old)) request
-  its_reply = s.legal.reply_is
+said_more : (past : List MetaEntry) (driver : ℕ) (answers : List MetaAnswer) → said_of (with_answers past driver answers) ≡ said_of past ++ answers_given past driver answers
+unfolding answers_given
+said_more past driver [] = sym (append-nil (said_of past))
+said_more past driver (a ∷ answers) = said_more (with_call past driver a.call) driver answers ∙ append_assoc (said_of past) (answer_to past a.call ∷ []) (answers_given (with_call past driver a.call) driver answers)
 
-module _ (items : List ClusterValue) (d : ℕ) (c new : ClusterValue) (line : ℕ) (request : Request) (reply : Reply) (within : d < length items) (s : Served (get_or items d c) new (asker d request) line request reply) where
+told_calls : (journal now : List MetaEntry) (driver : ℕ) (answers : List MetaAnswer) → Some now ≡ told_all (Some journal) driver answers → reverse now ≡ with_answers (reverse journal) driver answers
+told_calls journal now driver [] is = let same : now ≡ journal = cc in ap reverse same
+told_calls journal now driver (a ∷ answers) is =
+    told_calls (noted journal driver a.call) now driver answers is
+    ∙ ap (λ (past : List MetaEntry). with_answers past driver answers) (reverse-append journal (meta_entry driver a.call (verdict_of (reverse journal) a.call) ∷ []))
+
+cons_same : (a b : MetaAnswer) (xs ys : List MetaAnswer) → a ∷ xs ≡ b ∷ ys → (a ≡ b) × (xs ≡ ys)
+cons_same a b xs ys h = (cc, cc)
+
+-- so they are the ones that follow from what was asked
+asked_answers : (n : ℕ) (next : List MetaAnswer → Option MetaCall) (past : List MetaEntry) (driver : ℕ) (before answers : List MetaAnswer) (o : Option MetaCall) → o ≡ next before → length answers ≤ n → AreAsked next before answers
+    → answers ≡ answers_given past driver answers → answers ≡ answers_from n next past driver before o
+unfolding answers_given
+asked_answers n next past driver before [] None o_is few asked given = refl
+asked_answers n next past driver before [] (Some call) o_is few asked given = absurd (let both : Some call ≡ None = o_is ∙ asked in cc)
+asked_answers n next past driver before (a ∷ answers) None o_is few asked given = absurd (let both : None ≡ Some a.call = o_is ∙ asked.0 in cc)
+asked_answers zero next past driver before (a ∷ answers) (Some call) o_is few asked given = absurd (omega (arith, few))
+asked_answers (suc n) next past driver before (a ∷ answers) (Some call) o_is few asked given =
+    let same : call ≡ a.call = some_call call a.call (o_is ∙ asked.0) in
+    let parts = cons_same a (answer_to past a.call) answers (answers_given (with_call past driver a.call) driver answers) given in
+    let rest = asked_answers n next (with_call past driver a.call) driver (before ++ a ∷ []) answers (next (before ++ a ∷ [])) refl (omega (arith, few)) asked.1 parts.1 in
+    ap (λ (x : MetaAnswer). x ∷ answers) parts.0
+    ∙ ap (λ (l : List MetaAnswer). answer_to past a.call ∷ l) (rest ∙ ap (λ (x : MetaAnswer). answers_from n next (with_call past driver a.call) driver (before ++ x ∷ []) (next (before ++ x ∷ []))) parts.0)
+    ∙ ap (λ (c : MetaCall). answers_from (suc n) next past driver before (Some c)) (sym same)
+  where
+    some_call : (a b : MetaCall) → Some a ≡ Some b → a ≡ b
+    some_call a b h = cc
+
+cancel : (xs ys zs : List MetaAnswer) → xs ++ ys ≡ xs ++ zs → ys ≡ zs
+cancel [] ys zs h = h
+cancel (x ∷ xs) ys zs h = cancel xs ys zs (cons_same x x (xs ++ ys) (xs ++ zs) h).1
+
+-- what the metadata said and told of a request, before and after
+abbrev pub spoken : List MetaEntry → List MetaEntry → Spoken
+spoken journal now = record { said_old = said_of (reverse journal); said_new = said_of (reverse now); told_old = Some journal; told_new = Some now }
+
+module _ (old new : ClusterValue) (journal now : List MetaEntry) (actor : Actor) (line : ℕ) (request : Request) (reply : Reply) (s : Served old new (spoken journal now) actor line request reply) where
+  its_calls : reverse now ≡ with_answers (reverse journal) old.driver s.entry.answers
+  its_calls = told_calls journal now old.driver s.entry.answers s.told
+
+  its_answers : s.entry.answers ≡ answers_to (next_call (part_after (past_of old)) request) (reverse journal) old.driver
+  its_answers =
+      let given : s.entry.answers ≡ answers_given (reverse journal) old.driver s.entry.answers =
+          cancel (said_of (reverse journal)) s.entry.answers (answers_given (reverse journal) old.driver s.entry.answers) (sym s.said ∙ ap said_of its_calls ∙ said_more (reverse journal) old.driver s.entry.answers) in
+      let few = two_calls (part_after (past_of old)) s.entry.request s.entry.answers s.legal.asked in
+      asked_answers 2 (next_call (part_after (past_of old)) s.entry.request) (reverse journal) old.driver [] s.entry.answers (next_call (part_after (past_of old)) s.entry.request []) refl few s.legal.asked given
+      ∙ ap (λ (r : Request). answers_to (next_call (part_after (past_of old)) r) (reverse journal) old.driver) s.request_is
+
+  its_entry : s.entry ≡ entry_of actor line request s.entry.answers reply
+  its_entry = λ i. record { actor = s.actor_is i; line = s.line_is i; request = s.request_is i; answers = s.entry.answers; reply = s.reply_is i }
+
+  its_past : past_of new ≡ s.entry ∷ past_of old
+  its_past = ap reverse s.appended ∙ reverse-append old.entries (s.entry ∷ [])
+
+  its_reply : reply ≡ first_reply (part_after (past_of old)) request (record { answers = s.entry.answers })
+  its_reply = sym s.reply_is ∙ s.legal.reply_is ∙ ap (λ (r : Request). first_reply (part_after (past_of old)) r (record { answers = s.entry.answers })) s.request_is
+
+module _ (items : List ClusterValue) (d : ℕ) (c new : ClusterValue) (journal now : List MetaEntry) (line : ℕ) (request : Request) (reply : Reply) (within : d < length items) (numbered : AreNumbered items)
+    (s : Served (get_or items d c) new (spoken journal now) (asker d request) line request reply) where
   here : past_at (journals_of items) d ≡ past_of (get_or items d c)
   here = get_or-map past_of items d c [] within
 
-  pub served_reply : reply ≡ (served (journals_of items) d line request).reply
-  served_reply = its_reply (get_or items d c) new (asker d request) line request reply s ∙ ap (λ (p : List Entry). first_reply (part_after p) request) (sym here)
+  driver_here : (get_or items d c).driver ≡ d
+  driver_here = numbered d c within
 
-  pub served_journals : journals_of (set items d new) ≡ with_served (journals_of items) d line request
-  served_journals = map-set past_of items d new
-      ∙ ap (λ (p : List Entry). set (journals_of items) d p) (its_past (get_or items d c) new (asker d request) line request reply s
-      ∙ ap (λ (r : Reply). entry_of (asker d request) line request r ∷ past_of (get_or items d c)) served_reply
-      ∙ ap (λ (p : List Entry). served (journals_of items) d line request ∷ p) (sym here))
+  answers_here : s.entry.answers ≡ answers_at (kept_of items journal) d request
+  answers_here = its_answers (get_or items d c) new journal now (asker d request) line request reply s
+      ∙ ap (λ (n : ℕ). answers_to (next_call (part_after (past_of (get_or items d c))) request) (reverse journal) n) driver_here
+      ∙ ap (λ (p : List Entry). answers_to (next_call (part_after p) request) (reverse journal) d) (sym here)
+
+  pub served_reply : reply ≡ (served (kept_of items journal) d line request).reply
+  served_reply = its_reply (get_or items d c) new journal now (asker d request) line request reply s
+      ∙ ap (λ (answers : List MetaAnswer). first_reply (part_after (past_of (get_or items d c))) request (record { answers = answers })) answers_here
+      ∙ ap (λ (p : List Entry). first_reply (part_after p) request (record { answers = answers_at (kept_of items journal) d request })) (sym here)
+
+  entry_here : s.entry ≡ served (kept_of items journal) d line request
+  entry_here = its_entry (get_or items d c) new journal now (asker d request) line request reply s
+      ∙ ap (λ (answers : List MetaAnswer). entry_of (asker d request) line request answers reply) answers_here
+      ∙ ap (λ (r : Reply). entry_of (asker d request) line request (answers_at (kept_of items journal) d request) r) served_reply
+
+  journals_here : journals_of (set items d new) ≡ set (journals_of items) d (served (kept_of items journal) d line request ∷ past_at (journals_of items) d)
+  journals_here = map-set past_of items d new
+      ∙ ap (λ (p : List Entry). set (journals_of items) d p) (its_past (get_or items d c) new journal now (asker d request) line request reply s
+      ∙ ap (λ (e : Entry). e ∷ past_of (get_or items d c)) entry_here
+      ∙ ap (λ (p : List Entry). served (kept_of items journal) d line request ∷ p) (sym here))
+
+  metadata_here : reverse now ≡ with_answers (reverse journal) d (answers_at (kept_of items journal) d request)
+  metadata_here = its_calls (get_or items d c) new journal now (asker d request) line request reply s
+      ∙ ap (λ (n : ℕ). with_answers (reverse journal) n s.entry.answers) driver_here
+      ∙ ap (λ (answers : List MetaAnswer). with_answers (reverse journal) d answers) answers_here
+
+  pub served_kept : kept_of (set items d new) now ≡ with_served (kept_of items journal) d line request
+  served_kept = λ i. record { journals = journals_here i; metadata = metadata_here i }
 
   pub served_alive : AreAlive items → AreAlive (set items d new)
   served_alive alive = All-set (λ cluster. cluster.dead ≡ false) items d new s.lives alive
 
-  pub served_numbered : AreNumbered items → AreNumbered (set items d new)
-  served_numbered numbered e any low = by (nat_eq d e) refl
+  pub served_numbered : AreNumbered (set items d new)
+  served_numbered e any low = by (nat_eq d e) refl
     where
       low_before : e < length items
       low_before = omega (arith, low, length-set items d new)
@@ -74,6 +169,10 @@ pub on_ok : {A E : Type 0} (r : Result A E) (P : A → Type 0) (Q : Type 0) → 
 on_ok (Ok a) P Q f said = f a said
 on_ok (Err e) P Q f said = tt
 
+pub on_value : {A E : Type 0} (r : Result A E) (P Q : A → Type 0) → ((a : A) → P a → Q a) → IfOk r P → IfOk r Q
+on_value (Ok a) P Q f said = f a said
+on_value (Err e) P Q f said = tt
+
 -- a place that is there, whatever stands for one that isn't
 pub any_default : {A : Type 0} (xs : List A) (i : ℕ) (a b : A) → i < length xs → get_or xs i a ≡ get_or xs i b
 any_default [] i a b within = absurd (omega (arith, within))
@@ -81,12 +180,12 @@ any_default (x ∷ xs) zero a b within = refl
 any_default (x ∷ xs) (suc i) a b within = any_default xs i a b (omega (arith, within))
 
 -- the state after a line of the oracle, from what the calls leave
-pub line_is : (state : State) (line : Line) (reply : Answered) (d : ℕ) (lead next : Option BegunLead) (request : Option Request) (core : Whole) (leads : List (Option BegunLead)) (journals : List (List Entry))
+pub line_is : (state : State) (line : Line) (reply : Answered) (d : ℕ) (lead next : Option BegunLead) (request : Option Request) (core : Whole) (leads : List (Option BegunLead)) (kept : Kept)
     → d ≡ driver_in line.actor → lead ≡ lead_at state (driver_in line.actor) → reply ≡ (act_step state.oracle line.act).reply → request ≡ asked_besides line.act reply lead
-    → next ≡ lead_after line.act reply lead → core ≡ (act_step state.oracle line.act).after → leads ≡ set state.leads d next → journals ≡ with_besides state.journals d line.number request
-    → (let after : State = record { oracle = core; leads = leads; journals = journals } in after) ≡ (oracle_line state line).after
-line_is state line reply d lead next request core leads journals is_d is_lead is_reply is_request is_next is_core are_leads are_journals =
-    rw (is_core, are_leads, are_journals, is_next, is_request, is_reply, is_lead, is_d) refl
+    → next ≡ lead_after line.act reply lead → core ≡ (act_step state.oracle line.act).after → leads ≡ set state.leads d next → kept ≡ with_besides state.kept d line.number request
+    → (let after : State = record { oracle = core; leads = leads; kept = kept } in after) ≡ (oracle_line state line).after
+line_is state line reply d lead next request core leads kept is_d is_lead is_reply is_request is_next is_core are_leads are_kept =
+    rw (is_core, are_leads, are_kept, is_next, is_request, is_reply, is_lead, is_d) refl
 
 -- one more cluster that was asked nothing
 module _ (items : List ClusterValue) (n d : ℕ) (c : ClusterValue) (is : c ≡ cluster_value d [] false None) where
@@ -116,5 +215,5 @@ leads_more leads n before = ap (λ (ls : List (Option BegunLead)). ls ++ None �
 
 -- the first state of a script
 pub is_start : (script : Script) (state : State) (cell : CellWord)
-    → state ≡ record { oracle = opened (record { drivers = script.drivers; clients = script.clients; cell = cell }); leads = replicate (script.drivers + 1) None; journals = replicate (script.drivers + 1) [] } → cell ≡ opening_cell script.lines → state ≡ start script
-is_start script state cell new is = new ∙ ap (λ (c : CellWord). let s : State = record { oracle = opened (record { drivers = script.drivers; clients = script.clients; cell = c }); leads = replicate (script.drivers + 1) None; journals = replicate (script.drivers + 1) [] } in s) is
+    → state ≡ record { oracle = opened (record { drivers = script.drivers; clients = script.clients; cell = cell }); leads = replicate (script.drivers + 1) None; kept = record { journals = replicate (script.drivers + 1) []; metadata = [] } } → cell ≡ opening_cell script.lines → state ≡ start script
+is_start script state cell new is = new ∙ ap (λ (c : CellWord). let s : State = record { oracle = opened (record { drivers = script.drivers; clients = script.clients; cell = c }); leads = replicate (script.drivers + 1) None; kept = record { journals = replicate (script.drivers + 1) []; metadata = [] } } in s) is

@@ -3,7 +3,8 @@ use Rattle.std.specs.Prelude.{◌≡◌, ◌<◌, ◌+◌, ℕ, List, get_or, le
 use Rattle.pd_state.specs.Clusters.{ClusterValue}
 use Rattle.pd_state.specs.declared.entry.Entry.{Entry}
 use Rattle.pd_cluster.specs.declared.replay.Replay.{Replay}
-use Rattle.pd_cluster.specs.Replay.{State}
+use Rattle.meta_store.specs.declared.record.MetaEntry.{MetaEntry}
+use Rattle.pd_cluster.specs.Replay.{Kept, State}
 
 -- what a cluster was asked and replied, the latest first
 abbrev pub past_of : ClusterValue → List Entry
@@ -13,9 +14,13 @@ past_of cluster = reverse cluster.entries
 abbrev pub journals_of : List ClusterValue → List (List Entry)
 journals_of clusters = map past_of clusters
 
+-- what the clusters keep, and the metadata
+abbrev pub kept_of : List ClusterValue → List MetaEntry → Kept
+kept_of clusters journal = record { journals = journals_of clusters; metadata = reverse journal }
+
 -- the state
 abbrev pub state_of : Replay → State
-state_of replay = record { oracle = replay.core; leads = replay.leads.items; journals = journals_of replay.clusters.items }
+state_of replay = record { oracle = replay.core; leads = replay.leads.items; kept = kept_of replay.clusters.items replay.meta }
 
 -- want of memory ended none of the clusters
 abbrev pub AreAlive : List ClusterValue → Type 0

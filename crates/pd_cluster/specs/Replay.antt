@@ -1,5 +1,5 @@
--- The answers of a script, a line after the other over the state that the lines before leave: the oracle's, and a cluster for each
--- driver, whose journal is all that is known of it.
+-- The answers of a script, a line after the other over the state that the lines before leave: the oracle's, a cluster for each driver,
+-- whose journal is all that is known of it, and the metadata that the clusters share, whose calls are all that is known of it.
 use Rattle.std.specs.Prelude.{ℕ, ◌+◌, List, [], ◌∷◌, get_or, slice_set, replicate, nat_eq, Option, Some, None, if◌then◌else◌}
 use Rattle.pd_types.specs.declared.oracle.Actor.TheVariants.{Driver, Client}
 use Rattle.pd_types.specs.declared.request.Request.{Request}
@@ -17,9 +17,13 @@ use Rattle.tso_core.specs.Notes.{tell_of, hear_of}
 use Rattle.tso_core.specs.declared.reply.Kind.TheVariants.{Read as ToRead, Campaign as ToCampaign, Save as ToSave, Raise as ToRaise, Publish as ToPublish, Probe as ToProbe, Look as ToLook, Arm as ToArm, Draw as ToDraw}
 use Rattle.tso_core.specs.declared.reply.Reply.{Reply}
 use Rattle.tso_core.specs.declared.reply.Reply.TheVariants.{Won, Lost, Resigned, Nothing, CellRead, Claimed, Probed, Published}
+use Rattle.meta_store.specs.declared.record.MetaAnswer.{MetaAnswer}
+use Rattle.meta_store.specs.declared.record.MetaEntry.{MetaEntry}
 use Rattle.pd_state.specs.declared.entry.Entry.{Entry}
+use Rattle.pd_state.specs.Calls.{next_call}
 use Rattle.pd_state.specs.Legal.{first_reply}
 use Rattle.pd_state.specs.State.{part_after}
+use Rattle.pd_cluster.specs.Metadata.{answers_to, with_answers}
 use Rattle.pd_script.specs.Scripts.{asker}
 use Rattle.pd_cluster.specs.Answers.{Answer, driver_in, opening_cell}
 use Rattle.pd_cluster.specs.declared.lead.BegunLead.{BegunLead}
@@ -47,12 +51,18 @@ act_step w (Arm client n) = step_of w (Client client) (ToArm n)
 act_step w (Draw client) = step_of w (Client client) ToDraw
 act_step w (Ask driver request) = record { reply = Nothing; after = w }
 
--- the state: the oracle; how far each driver's lead by single steps is; and what each driver's cluster was asked and replied,
--- the latest first. Both lists go by the driver's number, and their first places are nobody's.
+-- what the clusters keep: by the driver's number what each was asked and replied, and the calls of all of them to the metadata;
+-- all with the latest first
+pub record Kept : Type 0 where
+  pub journals : List (List Entry)
+  pub metadata : List MetaEntry
+
+-- the state: the oracle; how far each driver's lead by single steps is; and what the clusters keep. The leads and the journals go by
+-- the driver's number, and their first places are nobody's.
 pub record State : Type 0 where
   pub oracle : Whole
   pub leads : List (Option BegunLead)
-  pub journals : List (List Entry)
+  pub kept : Kept
 
 -- the moment of a line that begins a lead or is one, else 0
 abbrev pub moment_of : Act → ℕ
@@ -92,23 +102,31 @@ asked_besides act _ lead = None
 abbrev pub past_at : List (List Entry) → ℕ → List Entry
 past_at journals driver = get_or journals driver []
 
--- the entry of a request to a driver's cluster: its reply is the first that applies over the entries before it
-abbrev pub served : List (List Entry) → ℕ → ℕ → Request → Entry
-served journals driver number request = record {
+-- what the metadata answers to the calls of a request to a driver's cluster
+abbrev pub answers_at : Kept → ℕ → Request → List MetaAnswer
+answers_at kept driver request = answers_to (next_call (part_after (past_at kept.journals driver)) request) kept.metadata driver
+
+-- the entry of a request to a driver's cluster: its reply is the first that applies over the entries before it and these answers
+abbrev pub served : Kept → ℕ → ℕ → Request → Entry
+served kept driver number request = record {
   actor = asker driver request;
   line = number;
   request = request;
-  reply = first_reply (part_after (past_at journals driver)) request;
+  answers = answers_at kept driver request;
+  reply = first_reply (part_after (past_at kept.journals driver)) request (record { answers = answers_at kept driver request });
 }
 
--- the journals with that entry
-abbrev pub with_served : List (List Entry) → ℕ → ℕ → Request → List (List Entry)
-with_served journals driver number request = slice_set journals driver (served journals driver number request ∷ past_at journals driver)
+-- what the clusters keep with that entry, and with the calls that were answered
+abbrev pub with_served : Kept → ℕ → ℕ → Request → Kept
+with_served kept driver number request = record {
+  journals = slice_set kept.journals driver (served kept driver number request ∷ past_at kept.journals driver);
+  metadata = with_answers kept.metadata driver (answers_at kept driver request);
+}
 
--- the journals with the entry of a request, where there is one
-abbrev pub with_besides : List (List Entry) → ℕ → ℕ → Option Request → List (List Entry)
-with_besides journals driver number None = journals
-with_besides journals driver number (Some request) = with_served journals driver number request
+-- the same with the entry of a request, where there is one
+abbrev pub with_besides : Kept → ℕ → ℕ → Option Request → Kept
+with_besides kept driver number None = kept
+with_besides kept driver number (Some request) = with_served kept driver number request
 
 -- an answer and the state after it
 pub record Turned : Type 0 where
@@ -132,7 +150,7 @@ oracle_turn state line driver stepped = record {
   after = record {
     oracle = stepped.after;
     leads = slice_set state.leads driver (lead_after line.act stepped.reply (lead_at state driver));
-    journals = with_besides state.journals driver line.number (asked_besides line.act stepped.reply (lead_at state driver));
+    kept = with_besides state.kept driver line.number (asked_besides line.act stepped.reply (lead_at state driver));
   };
 }
 
@@ -144,8 +162,8 @@ oracle_line state line = oracle_turn state line (driver_in line.actor) (act_step
 abbrev pub line_by : State → Line → Option (ℕ × Request) → Turned
 line_by state line None = oracle_line state line
 line_by state line (Some asked) = record {
-  said = ByCluster (served state.journals asked.0 line.number asked.1).reply;
-  after = record state { journals = with_served state.journals asked.0 line.number asked.1 };
+  said = ByCluster (served state.kept asked.0 line.number asked.1).reply;
+  after = record state { kept = with_served state.kept asked.0 line.number asked.1 };
 }
 
 -- what a line does
@@ -168,7 +186,7 @@ setup_of script = record { drivers = script.drivers; clients = script.clients; c
 
 -- the state before the first line
 abbrev pub start : Script → State
-start script = record { oracle = opened (setup_of script); leads = replicate (script.drivers + 1) None; journals = replicate (script.drivers + 1) [] }
+start script = record { oracle = opened (setup_of script); leads = replicate (script.drivers + 1) None; kept = record { journals = replicate (script.drivers + 1) []; metadata = [] } }
 
 -- the answers to a script
 abbrev pub answers_of : Script → List Answer

@@ -4,7 +4,7 @@ ghost use Rattle.pd_cluster.specs.Answers.{said_text};
 use std::fmt;
 
 /// What a line is answered, by the oracle or by a driver's cluster. It prints as the answer's text.
-#[derive(Clone, Copy, Debug, PartialEq, Eq)]
+#[derive(Debug, Drop, PartialEq, Eq)]
 pub enum Said {
     ByOracle(tso_core::Reply),
     ByCluster(pd_state::Reply),

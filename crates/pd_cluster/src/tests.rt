@@ -41,7 +41,26 @@ fn expect<R: Threads + Wait + Sync + Abort>(
 }
 
 // Worked rows. In each line an act stands in front of `>` and its answer.
-const ROWS: [&str; 22] = [
+const ROWS: [&str; 24] = [
+    "\
+lead 1 1000 > won term 1 lo 1000 hi 4000
+hello 1 1 1000 a1 > store put
+lead 2 500 > won term 2 lo 4001 hi 7001
+hello 2 1 1001 a2 > old-term 2
+alive 9 2 1002 > unknown-store
+alive 1 3 1002 > not-leading",
+    "\
+lead 1 1000 > won term 1 lo 1000 hi 4000
+hello 1 1 1000 a1 zone=z1 > store put
+resign 1 > resigned
+alive 1 1 1001 > not-leading
+lead 2 5000 > won term 2 lo 5000 hi 8000
+alive 1 2 5001 > alive
+alive 2 2 5001 > unknown-store
+hello 1 2 5002 a9 > store put
+lead 1 5003 > won term 3 lo 8001 hi 11001
+hello 1 1 5004 a1 > store put
+hello 1 2 5005 a1 > old-term 3",
     "\
 lead 1 1000 > won term 1 lo 1000 hi 4000
 take 1 1 3 > got term 1 driver 1 first 262144001 last 262144003
@@ -175,11 +194,12 @@ alive 1 1 1000 > alive
 resign 1 > resigned
 alive 1 1 1000 > not-leading
 lead 1 1000 > won term 2 lo 7000 hi 10000
-alive 1 1 1000 > unknown-store",
+alive 1 1 1000 > alive
+alive 2 1 1000 > unknown-store",
     "\
 lead 1 1000 > won term 1 lo 1000 hi 4000
 lead 2 1000 > won term 2 lo 4001 hi 7001
-hello 1 1 1000 a1 > store put
+hello 1 1 1000 a1 > old-term 2
 tick 1 3999 > lost saved 7001 term 2
 alive 1 1 1000 > not-leading
 alive 1 2 1000 > unknown-store",

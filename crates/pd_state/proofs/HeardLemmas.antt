@@ -17,6 +17,9 @@ heard_other store at moment before other = rw (ne_eqb store at (λ same. other (
 
 pub alive_refused : (reply : Reply) (store at moment : ℕ) (before : Option ℕ) → reply ≢ replies.Alive → alive_by reply store at moment before ≡ before
 alive_refused replies.Alive store at moment before other = absurd (other refl)
+alive_refused (replies.OldTerm fence) store at moment before other = refl
+alive_refused (replies.Conflict found) store at moment before other = refl
+alive_refused replies.MetaLimit store at moment before other = refl
 alive_refused (replies.Term term stores rules) store at moment before other = refl
 alive_refused replies.Retired store at moment before other = refl
 alive_refused replies.StorePut store at moment before other = refl
@@ -31,6 +34,9 @@ alive_refused replies.NotLeading store at moment before other = refl
 
 pub hello_refused : (reply : Reply) (store at moment : ℕ) (before : Option ℕ) → reply ≢ replies.StorePut → hello_by reply store at moment before ≡ before
 hello_refused replies.StorePut store at moment before other = absurd (other refl)
+hello_refused (replies.OldTerm fence) store at moment before other = refl
+hello_refused (replies.Conflict found) store at moment before other = refl
+hello_refused replies.MetaLimit store at moment before other = refl
 hello_refused (replies.Term term stores rules) store at moment before other = refl
 hello_refused replies.Retired store at moment before other = refl
 hello_refused replies.Alive store at moment before other = refl

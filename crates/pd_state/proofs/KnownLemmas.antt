@@ -1,5 +1,5 @@
 -- The records of stores, by who said hello.
-use Rattle.std.proofs.Common.{refl, ◌≡◌, ◌≢◌, ℕ, zero, suc, ◌<◌, Bool, true, false, ◌||◌, nat_eq, nat_lt, List, [], ◌∷◌, ◌++◌, length, get_or, map, ap, sym, subst, ◌∙◌, Option, Some, None, arith}
+use Rattle.std.proofs.Common.{refl, ◌≡◌, ◌≢◌, ℕ, zero, suc, ◌<◌, Bool, true, false, cond, ◌||◌, ◌⊎◌, inl, inr, fold, nat_eq, nat_le, nat_lt, List, [], ◌∷◌, ◌++◌, length, get_or, map, ap, sym, subst, ◌∙◌, Option, Some, None, arith}
 use Rattle.std.proofs.lemmas.Bool.Decides.{nat_tests}
 use Rattle.std.proofs.lemmas.List.Elements.{All-append, filter_passes}
 use Rattle.std.proofs.lemmas.List.Kept.{AllPairs-cons, AllPairs-filter}
@@ -16,8 +16,14 @@ use Rattle.store_table.proofs.MapLemmas.{entry_placed, entry_others}
 use Rattle.pd_state.specs.declared.entry.Entry.{Entry}
 use Rattle.pd_state.specs.declared.reply.Reply.{Reply}
 use Rattle.pd_state.specs.declared.reply.Reply.TheVariants as replies
-use Rattle.pd_state.specs.State.{greeting, record_at, kept_state, with_record, records_by, records_of, store_of, part_of}
-use Rattle.pd_state.specs.Known.{where_put, greets, is_hello, LastHello, AreKnown}
+use Rattle.store_table.specs.declared.table.TheConstants.{MOST_STORES}
+use Rattle.meta_store.specs.declared.record.Cell.{Cell}
+use Rattle.pd_state.specs.declared.heard.Heard.{Heard}
+use Rattle.pd_state.specs.HandedOut.{record_at, store_in, store_more, stores_told, with_record}
+use Rattle.pd_state.specs.Heard.{handed_out, heard_of}
+use Rattle.pd_state.specs.Since.{begun, since, since_by}
+use Rattle.pd_state.specs.State.{greeted_by, greeting, kept_state, records_by, records_of, store_of, part_of}
+use Rattle.pd_state.specs.Known.{begun_with, handed_to, state_or_up, where_put, greets, is_hello, LastHello, WasHanded, AreKnown}
 use Rattle.pd_state.proofs.Rows.{entry_map, placed_map}
 
 -- a record is found once it is placed, and those of other ids as before
@@ -31,10 +37,10 @@ bare (Some rec) = refl
 found_with : (id : ℕ) (rec : StoreRec) (recs : List StoreRec) → option_map plain (record_at id (with_record rec recs)) ≡ entry_at id (placed (plain rec) (map plain recs))
 found_with id rec recs = sym (entry_map plain (λ r. refl) id (with_record rec recs)) ∙ ap (entry_at id) (sym (placed_map plain plain (λ r. refl) rec (plain rec) refl refl (λ r h. refl) recs))
 
-with_own : (rec : StoreRec) (recs : List StoreRec) → record_at rec.id (with_record rec recs) ≡ Some rec
+pub with_own : (rec : StoreRec) (recs : List StoreRec) → record_at rec.id (with_record rec recs) ≡ Some rec
 with_own rec recs = sym (bare (record_at rec.id (with_record rec recs))) ∙ ap (option_map (λ (e : StoreEntry). e.store)) (found_with rec.id rec recs ∙ entry_placed (plain rec) (map plain recs))
 
-with_other : (id : ℕ) (rec : StoreRec) (recs : List StoreRec) → id ≢ rec.id → record_at id (with_record rec recs) ≡ record_at id recs
+pub with_other : (id : ℕ) (rec : StoreRec) (recs : List StoreRec) → id ≢ rec.id → record_at id (with_record rec recs) ≡ record_at id recs
 with_other id rec recs other =
     sym (bare (record_at id (with_record rec recs)))
     ∙ ap (option_map (λ (e : StoreEntry). e.store)) (found_with id rec recs ∙ entry_others id (plain rec) (map plain recs) other ∙ entry_map plain (λ r. refl) id recs) ∙ bare (record_at id recs)
@@ -43,10 +49,10 @@ kept_id : (o : Option StoreRec) (rec : StoreRec) → (kept_state o rec).id ≡ r
 kept_id None rec = refl
 kept_id (Some known) rec = refl
 
-same_id : (a b : ℕ) → nat_eq a b ≡ true → a ≡ b
+pub same_id : (a b : ℕ) → nat_eq a b ≡ true → a ≡ b
 same_id a b h = grind (arith, nat_tests)
 
-other_id : (a b : ℕ) → nat_eq a b ≡ false → b ≢ a
+pub other_id : (a b : ℕ) → nat_eq a b ≡ false → b ≢ a
 other_id a b h k = grind (arith, nat_tests)
 
 -- the record of a store after an accepted hello of it, and of another
@@ -57,31 +63,74 @@ hello_own rec recs store is =
 hello_other : (rec : StoreRec) (recs : List StoreRec) (store : ℕ) → store ≢ rec.id → record_at store (with_record (kept_state (record_at rec.id recs) rec) recs) ≡ record_at store recs
 hello_other rec recs store other = with_other store (kept_state (record_at rec.id recs) rec) recs (λ h. other (h ∙ kept_id (record_at rec.id recs) rec))
 
+-- a term part: a Term, and behind it no other
+abbrev pub part_by : Request → List Entry → Type 0 → Type 0
+part_by (ask.Term term moment) entries rest = entries ≡ []
+part_by _ entries rest = rest
+
+abbrev pub TermPart : List Entry → Type 0
+TermPart [] = ⊥
+TermPart (e ∷ entries) = part_by e.request entries (TermPart entries)
+
+cons_same : (e : Entry) (fs entries : List Entry) → Some (e ∷ fs) ≡ Some entries → e ∷ fs ≡ entries
+cons_same e fs entries h = cc
+
+part_one : (e : Entry) (r : Request) (s : Option (List Entry)) (entries : List Entry) → e.request ≡ r → ((fs : List Entry) → s ≡ Some fs → TermPart fs) → since_by r e s ≡ Some entries → TermPart entries
+part_one e (ask.Term term moment) s entries is rest h = begun_one e.reply h
+  where
+    alone : TermPart (e ∷ [])
+    alone = subst (λ (r : Request). part_by r [] ⊥) (sym is) refl
+
+    begun_one : (p : Reply) → begun p e ≡ Some entries → TermPart entries
+    begun_one (replies.Term n a b) h = subst TermPart (cons_same e [] entries h) alone
+    begun_one p h = absurd cc
+part_one e ask.Retire s entries is rest h = absurd cc
+part_one e (ask.Hello store moment address labels) None entries is rest h = absurd cc
+part_one e (ask.Alive store moment) None entries is rest h = absurd cc
+part_one e (ask.Beat store moment beat) None entries is rest h = absurd cc
+part_one e (ask.Hello store moment address labels) (Some fs) entries is rest h = subst TermPart (cons_same e fs entries h) (subst (λ (r : Request). part_by r fs (TermPart fs)) (sym is) (rest fs refl))
+part_one e (ask.Alive store moment) (Some fs) entries is rest h = subst TermPart (cons_same e fs entries h) (subst (λ (r : Request). part_by r fs (TermPart fs)) (sym is) (rest fs refl))
+part_one e (ask.Beat store moment beat) (Some fs) entries is rest h = subst TermPart (cons_same e fs entries h) (subst (λ (r : Request). part_by r fs (TermPart fs)) (sym is) (rest fs refl))
+
+pub term_part : (past entries : List Entry) → since past ≡ Some entries → TermPart entries
+term_part [] entries h = absurd cc
+term_part (e ∷ past) entries h = part_one e e.request (since past) entries refl (term_part past) h
+
 -- known
-known_one : (r : Request) (p : Reply) (recs : List StoreRec) (store : ℕ) (b : Bool) → is_some (record_at store recs) ≡ b → is_some (record_at store (records_by r p recs)) ≡ greets store r p || b
-known_one (ask.Hello at moment address labels) replies.StorePut recs store b h = by (nat_eq at store) refl
+or_twice : (a b c : Bool) → a || (b || c) ≡ (a || b) || c
+or_twice true b c = refl
+or_twice false b c = refl
+
+abbrev Knows : Request → Entry → List Entry → ℕ → Type 0
+Knows r e entries store =
+    is_some (record_at store (records_by r e.reply (heard_of e) (records_of entries))) ≡ (greets store r e.reply || list_any (is_hello store) entries) || is_some (record_at store (stores_told (begun_with r (handed_out e.answers) (handed_to entries))))
+
+hello_knows : (p : Reply) (at moment : ℕ) (address : List ℕ) (labels : List Label) (recs : List StoreRec) (store : ℕ) (b : Bool) → is_some (record_at store recs) ≡ b
+    → is_some (record_at store (greeted_by p (greeting at address labels) recs)) ≡ where_put p (nat_eq at store) || b
+hello_knows replies.StorePut at moment address labels recs store b h = by (nat_eq at store) refl
   where
     by : (t : Bool) → nat_eq at store ≡ t → is_some (record_at store (with_record (kept_state (record_at at recs) (greeting at address labels)) recs)) ≡ t || b
     by true is = ap is_some (hello_own (greeting at address labels) recs store (same_id at store is))
     by false is = ap is_some (hello_other (greeting at address labels) recs store (other_id at store is)) ∙ h
-known_one (ask.Hello at moment address labels) p recs store b h = h
-known_one r p recs store b h = h
+hello_knows p at moment address labels recs store b h = h
 
-known_all : (entries : List Entry) (store : ℕ) → is_some (record_at store (records_of entries)) ≡ list_any (is_hello store) entries
-known_all [] store = refl
-known_all (e ∷ entries) store = known_one e.request e.reply (records_of entries) store (list_any (is_hello store) entries) (known_all entries store)
+known_one : (r : Request) (e : Entry) (entries : List Entry) (store : ℕ) → part_by r entries (TermPart entries)
+    → (TermPart entries → is_some (record_at store (records_of entries)) ≡ list_any (is_hello store) entries || is_some (record_at store (stores_told (handed_to entries)))) → Knows r e entries store
+known_one (ask.Term term moment) e entries store part rest = ap (λ (es : List Entry). list_any (is_hello store) es || is_some (record_at store (stores_told (handed_out e.answers)))) (sym part)
+known_one (ask.Hello at moment address labels) e entries store part rest =
+    hello_knows e.reply at moment address labels (records_of entries) store _ (rest part) ∙ or_twice (where_put e.reply (nat_eq at store)) (list_any (is_hello store) entries) (is_some (record_at store (stores_told (handed_to entries))))
+known_one ask.Retire e entries store part rest = rest part
+known_one (ask.Alive at moment) e entries store part rest = rest part
+known_one (ask.Beat at moment beat) e entries store part rest = rest part
+
+known_all : (entries : List Entry) → TermPart entries → (store : ℕ) → is_some (record_at store (records_of entries)) ≡ list_any (is_hello store) entries || is_some (record_at store (stores_told (handed_to entries)))
+known_all [] part store = absurd part
+known_all (e ∷ entries) part store = known_one e.request e entries store part (λ p. known_all entries p store)
 
 -- told
 kept_address : (o : Option StoreRec) (rec : StoreRec) → ((kept_state o rec).address ≡ rec.address) × ((kept_state o rec).labels ≡ rec.labels)
 kept_address None rec = (refl, refl)
 kept_address (Some known) rec = (refl, refl)
-
-kept_up : (o : Option StoreRec) (rec : StoreRec) → ((known : StoreRec) → o ≡ Some known → known.state ≡ Up) → rec.state ≡ Up → (kept_state o rec).state ≡ Up
-kept_up None rec all up = up
-kept_up (Some known) rec all up = all known refl
-
-abbrev Told : List Entry → Type 0
-Told entries = (store : ℕ) (rec : StoreRec) → record_at store (records_of entries) ≡ Some rec → LastHello entries store rec.address rec.labels × (rec.state ≡ Up)
 
 later_one : (e : Entry) (entries : List Entry) (store : ℕ) (address : List ℕ) (labels : List Label) → is_hello store e ≡ false → LastHello entries store address labels → LastHello (e ∷ entries) store address labels
 later_one e entries store address labels other l = record {
@@ -95,45 +144,111 @@ later_one e entries store address labels other l = record {
   last = ap (λ (t : Bool). t || list_any (is_hello store) l.later) other ∙ l.last;
 }
 
-some_same : (x y : StoreRec) → Some x ≡ Some y → x ≡ y
+pub some_same : (x y : StoreRec) → Some x ≡ Some y → x ≡ y
 some_same x y h = cc
 
-told_one : (e : Entry) (entries : List Entry) (r : Request) (p : Reply) → e.request ≡ r → e.reply ≡ p → Told entries → (store : ℕ) (rec : StoreRec) → record_at store (records_by r p (records_of entries)) ≡ Some rec → LastHello (e ∷ entries) store rec.address rec.labels × (rec.state ≡ Up)
-told_one e entries (ask.Hello at moment address labels) replies.StorePut asked put told store rec found = by (nat_eq at store) refl found
+abbrev ToldOne : List Entry → ℕ → StoreRec → Type 0
+ToldOne entries store rec = LastHello entries store rec.address rec.labels ⊎ WasHanded entries store rec
+
+-- what an entry tells that is no accepted hello of the store
+told_before : (e : Entry) (entries : List Entry) (store : ℕ) (rec : StoreRec) → is_hello store e ≡ false → begun_with e.request (handed_out e.answers) (handed_to entries) ≡ handed_to entries → ToldOne entries store rec → ToldOne (e ∷ entries) store rec
+told_before e entries store rec other same (inl l) = inl (later_one e entries store rec.address rec.labels other l)
+told_before e entries store rec other same (inr w) = inr (record {
+  unheard = ap (λ (t : Bool). t || list_any (is_hello store) entries) other ∙ w.unheard;
+  handed = ap (λ (cells : List Cell). record_at store (stores_told cells)) same ∙ w.handed;
+})
+
+own_hello : (e : Entry) (entries : List Entry) (at moment : ℕ) (address : List ℕ) (labels : List Label) (store : ℕ) (rec : StoreRec) → e.request ≡ ask.Hello at moment address labels → e.reply ≡ replies.StorePut → at ≡ store
+    → kept_state (record_at at (records_of entries)) (greeting at address labels) ≡ rec → LastHello (e ∷ entries) store rec.address rec.labels
+own_hello e entries at moment address labels store rec asked put id rec_is =
+    let keeps = kept_address (record_at at (records_of entries)) (greeting at address labels) in
+    record {
+      later = [];
+      hello = e;
+      earlier = entries;
+      moment = moment;
+      among = refl;
+      asked = asked ∙ ap (λ n. ask.Hello n moment address labels) id ∙ ap (λ (a : List ℕ). ask.Hello store moment a labels) (sym keeps.0 ∙ ap (λ (x : StoreRec). x.address) rec_is)
+          ∙ ap (λ (l : List Label). ask.Hello store moment rec.address l) (sym keeps.1 ∙ ap (λ (x : StoreRec). x.labels) rec_is);
+      put = put;
+      last = refl;
+    }
+
+abbrev ToldAll : List Entry → Type 0
+ToldAll entries = (store : ℕ) (rec : StoreRec) → record_at store (records_of entries) ≡ Some rec → ToldOne entries store rec
+
+told_hello : (e : Entry) (entries : List Entry) (at moment : ℕ) (address : List ℕ) (labels : List Label) (p : Reply) → e.request ≡ ask.Hello at moment address labels → e.reply ≡ p → ToldAll entries → (store : ℕ) (rec : StoreRec)
+    → record_at store (greeted_by p (greeting at address labels) (records_of entries)) ≡ Some rec → ToldOne (e ∷ entries) store rec
+told_hello e entries at moment address labels replies.StorePut asked put told store rec found = by (nat_eq at store) refl
   where
     says : is_hello store e ≡ nat_eq at store
     says = ap (λ (r : Request). greets store r e.reply) asked ∙ ap (λ (p : Reply). where_put p (nat_eq at store)) put
 
-    by : (t : Bool) → nat_eq at store ≡ t → record_at store (with_record (kept_state (record_at at (records_of entries)) (greeting at address labels)) (records_of entries)) ≡ Some rec → LastHello (e ∷ entries) store rec.address rec.labels × (rec.state ≡ Up)
-    by true is here =
+    by : (t : Bool) → nat_eq at store ≡ t → ToldOne (e ∷ entries) store rec
+    by true is =
         let id : at ≡ store = same_id at store is in
-        let rec_is : kept_state (record_at at (records_of entries)) (greeting at address labels) ≡ rec = some_same _ rec (sym (hello_own (greeting at address labels) (records_of entries) store id) ∙ here) in
-        let keeps = kept_address (record_at at (records_of entries)) (greeting at address labels) in (
-          record {
-            later = [];
-            hello = e;
-            earlier = entries;
-            moment = moment;
-            among = refl;
-            asked = asked ∙ ap (λ n. ask.Hello n moment address labels) id ∙ ap (λ (a : List ℕ). ask.Hello store moment a labels) (sym keeps.0 ∙ ap (λ (x : StoreRec). x.address) rec_is)
-                ∙ ap (λ (l : List Label). ask.Hello store moment rec.address l) (sym keeps.1 ∙ ap (λ (x : StoreRec). x.labels) rec_is);
-            put = put;
-            last = refl;
-          },
-          sym (ap (λ (x : StoreRec). x.state) rec_is) ∙ kept_up (record_at at (records_of entries)) (greeting at address labels) (λ known k. (told at known k).1) refl,
-        )
-    by false is here =
-        let rest = told store rec (sym (hello_other (greeting at address labels) (records_of entries) store (other_id at store is)) ∙ here) in
-        (later_one e entries store rec.address rec.labels (says ∙ is) rest.0, rest.1)
-told_one e entries (ask.Hello at moment address labels) p asked put told store rec found =
-    let rest = told store rec found in
-    (later_one e entries store rec.address rec.labels (ap (λ (r : Request). greets store r e.reply) asked ∙ ap (λ (q : Reply). where_put q (nat_eq at store)) put) rest.0, rest.1)
-told_one e entries r p asked put told store rec found =
-    let rest = told store rec found in (later_one e entries store rec.address rec.labels (ap (λ (r : Request). greets store r e.reply) asked) rest.0, rest.1)
+        inl (own_hello e entries at moment address labels store rec asked put id (some_same _ rec (sym (hello_own (greeting at address labels) (records_of entries) store id) ∙ found)))
+    by false is =
+        told_before e entries store rec (says ∙ is) (ap (λ (r : Request). begun_with r (handed_out e.answers) (handed_to entries)) asked)
+        (told store rec (sym (hello_other (greeting at address labels) (records_of entries) store (other_id at store is)) ∙ found))
+told_hello e entries at moment address labels p asked put told store rec found =
+    told_before e entries store rec (ap (λ (r : Request). greets store r e.reply) asked ∙ ap (λ (q : Reply). where_put q (nat_eq at store)) put) (ap (λ (r : Request). begun_with r (handed_out e.answers) (handed_to entries)) asked) (told store rec found)
 
-told_all : (entries : List Entry) → Told entries
-told_all [] store rec found = absurd cc
-told_all (e ∷ entries) store rec found = told_one e entries e.request e.reply refl refl (told_all entries) store rec found
+told_one : (r : Request) (e : Entry) (entries : List Entry) → e.request ≡ r → part_by r entries (TermPart entries) → (TermPart entries → ToldAll entries) → (store : ℕ) (rec : StoreRec)
+    → record_at store (records_by r e.reply (heard_of e) (records_of entries)) ≡ Some rec → ToldOne (e ∷ entries) store rec
+told_one (ask.Term term moment) e entries asked part rest store rec found = inr (record {
+  unheard = ap (λ (r : Request). greets store r e.reply || list_any (is_hello store) entries) asked ∙ ap (λ (es : List Entry). list_any (is_hello store) es) part;
+  handed = ap (λ (r : Request). record_at store (stores_told (begun_with r (handed_out e.answers) (handed_to entries)))) asked ∙ found;
+})
+told_one (ask.Hello at moment address labels) e entries asked part rest store rec found = told_hello e entries at moment address labels e.reply asked refl (rest part) store rec found
+told_one ask.Retire e entries asked part rest store rec found =
+    told_before e entries store rec (ap (λ (r : Request). greets store r e.reply) asked) (ap (λ (r : Request). begun_with r (handed_out e.answers) (handed_to entries)) asked) (rest part store rec found)
+told_one (ask.Alive at moment) e entries asked part rest store rec found =
+    told_before e entries store rec (ap (λ (r : Request). greets store r e.reply) asked) (ap (λ (r : Request). begun_with r (handed_out e.answers) (handed_to entries)) asked) (rest part store rec found)
+told_one (ask.Beat at moment beat) e entries asked part rest store rec found =
+    told_before e entries store rec (ap (λ (r : Request). greets store r e.reply) asked) (ap (λ (r : Request). begun_with r (handed_out e.answers) (handed_to entries)) asked) (rest part store rec found)
+
+told_all : (entries : List Entry) → TermPart entries → ToldAll entries
+told_all [] part = absurd part
+told_all (e ∷ entries) part = told_one e.request e entries refl part (λ p. told_all entries p)
+
+-- the state
+or_none : (b : Bool) (o : Option StoreRec) → false ≡ b || is_some o → o ≡ None
+or_none true o h = absurd cc
+or_none false None h = refl
+or_none false (Some rec) h = absurd cc
+
+abbrev InState : List Entry → List Cell → Type 0
+InState entries cells = (store : ℕ) (rec : StoreRec) → record_at store (records_of entries) ≡ Some rec → rec.state ≡ state_or_up (record_at store (stores_told cells))
+
+state_own : (o before : Option StoreRec) (rec : StoreRec) → rec.state ≡ Up → (is_some o ≡ false → before ≡ None) → ((known : StoreRec) → o ≡ Some known → known.state ≡ state_or_up before) → (kept_state o rec).state ≡ state_or_up before
+state_own None before rec up none known = up ∙ ap state_or_up (sym (none refl))
+state_own (Some rec) before new up none known = known rec refl
+
+state_hello : (entries : List Entry) (at moment : ℕ) (address : List ℕ) (labels : List Label) (p : Reply) → TermPart entries → InState entries (handed_to entries) → (store : ℕ) (rec : StoreRec)
+    → record_at store (greeted_by p (greeting at address labels) (records_of entries)) ≡ Some rec → rec.state ≡ state_or_up (record_at store (stores_told (handed_to entries)))
+state_hello entries at moment address labels replies.StorePut part before store rec found = by (nat_eq at store) refl
+  where
+    by : (t : Bool) → nat_eq at store ≡ t → rec.state ≡ state_or_up (record_at store (stores_told (handed_to entries)))
+    by true is =
+        let id : at ≡ store = same_id at store is in
+        let rec_is : kept_state (record_at at (records_of entries)) (greeting at address labels) ≡ rec = some_same _ rec (sym (hello_own (greeting at address labels) (records_of entries) store id) ∙ found) in
+        let own = state_own (record_at at (records_of entries)) (record_at at (stores_told (handed_to entries))) (greeting at address labels) refl (λ none. or_none (list_any (is_hello at) entries) _ (sym none ∙ known_all entries part at)) (before at) in
+        sym (ap (λ (x : StoreRec). x.state) rec_is) ∙ own ∙ ap (λ n. state_or_up (record_at n (stores_told (handed_to entries)))) id
+    by false is = before store rec (sym (hello_other (greeting at address labels) (records_of entries) store (other_id at store is)) ∙ found)
+state_hello entries at moment address labels p part before store rec found = before store rec found
+
+state_one : (r : Request) (e : Entry) (entries : List Entry) → part_by r entries (TermPart entries) → (TermPart entries → InState entries (handed_to entries)) → (store : ℕ) (rec : StoreRec)
+    → record_at store (records_by r e.reply (heard_of e) (records_of entries)) ≡ Some rec → rec.state ≡ state_or_up (record_at store (stores_told (begun_with r (handed_out e.answers) (handed_to entries))))
+state_one (ask.Term term moment) e entries part rest store rec found = ap state_or_up (sym found)
+state_one (ask.Hello at moment address labels) e entries part rest store rec found = state_hello entries at moment address labels e.reply part (rest part) store rec found
+state_one ask.Retire e entries part rest store rec found = rest part store rec found
+state_one (ask.Alive at moment) e entries part rest store rec found = rest part store rec found
+state_one (ask.Beat at moment beat) e entries part rest store rec found = rest part store rec found
+
+state_all : (entries : List Entry) → TermPart entries → InState entries (handed_to entries)
+state_all [] part = absurd part
+state_all (e ∷ entries) part = state_one e.request e entries part (λ p. state_all entries p)
 
 -- rising
 abbrev Rise : List StoreRec → Type 0
@@ -163,14 +278,27 @@ rise_with rec recs rise =
         let two = high j d (omega arith) in
         omega (arith, one, two)
 
-rise_one : (r : Request) (p : Reply) (recs : List StoreRec) → Rise recs → Rise (records_by r p recs)
-rise_one (ask.Hello at moment address labels) replies.StorePut recs rise = rise_with (kept_state (record_at at recs) (greeting at address labels)) recs rise
-rise_one (ask.Hello at moment address labels) p recs rise = rise
-rise_one r p recs rise = rise
+rise_more : (o : Option StoreRec) (recs : List StoreRec) → Rise recs → Rise (store_more o recs)
+rise_more None recs rise = rise
+rise_more (Some rec) recs rise = by (nat_le MOST_STORES (length recs))
+  where
+    by : (t : Bool) → Rise (cond t recs (with_record rec recs))
+    by true = rise
+    by false = rise_with rec recs rise
+
+rise_told : (cells : List Cell) (recs : List StoreRec) → Rise recs → Rise (fold (λ (recs : List StoreRec) (cell : Cell). store_more (store_in cell) recs) recs cells)
+rise_told [] recs rise = rise
+rise_told (cell ∷ cells) recs rise = rise_told cells (store_more (store_in cell) recs) (rise_more (store_in cell) recs rise)
+
+rise_one : (r : Request) (p : Reply) (known : Heard) (recs : List StoreRec) → Rise recs → Rise (records_by r p known recs)
+rise_one (ask.Term term moment) p known recs rise = rise_told (handed_out known.answers) [] (λ i j d less low. absurd (omega arith))
+rise_one (ask.Hello at moment address labels) replies.StorePut known recs rise = rise_with (kept_state (record_at at recs) (greeting at address labels)) recs rise
+rise_one (ask.Hello at moment address labels) p known recs rise = rise
+rise_one r p known recs rise = rise
 
 rise_all : (entries : List Entry) → Rise (records_of entries)
 rise_all [] = λ i j d less low. absurd (omega arith)
-rise_all (e ∷ entries) = rise_one e.request e.reply (records_of entries) (rise_all entries)
+rise_all (e ∷ entries) = rise_one e.request e.reply (heard_of e) (records_of entries) (rise_all entries)
 
 mapped : (f : StoreRec → StoreEntry) (recs : List StoreRec) (k : ℕ) (d : StoreEntry) → k < length (map f recs) → (r : StoreRec) × ((e : StoreRec) → get_or recs k e ≡ r) × (get_or (map f recs) k d ≡ f r)
 mapped f [] k d low = absurd (omega arith)
@@ -199,14 +327,14 @@ is_some_mapped : (o : Option StoreRec) (f : StoreRec → StoreEntry) → is_some
 is_some_mapped None f = refl
 is_some_mapped (Some rec) f = refl
 
-pub are_known : (entries : List Entry) → AreKnown entries (part_of entries).stores
-are_known entries = record {
-  known = λ store. ap is_some (entry_map (store_of entries) (λ r. refl) store (records_of entries)) ∙ is_some_mapped (record_at store (records_of entries)) (store_of entries) ∙ known_all entries store;
+pub are_known : (entries : List Entry) → TermPart entries → AreKnown entries (part_of entries).stores
+are_known entries part = record {
+  known = λ store. ap is_some (entry_map (store_of entries) (λ r. refl) store (records_of entries)) ∙ is_some_mapped (record_at store (records_of entries)) (store_of entries) ∙ known_all entries part store;
   told = λ store found is.
       let (rec, at, same) = some_mapped (record_at store (records_of entries)) (store_of entries) found (sym (entry_map (store_of entries) (λ r. refl) store (records_of entries)) ∙ is) in
-      subst (λ (e : StoreEntry). LastHello entries store e.store.address e.store.labels) same (told_all entries store rec at).0;
-  up = λ store found is.
+      subst (λ (e : StoreEntry). ToldOne entries store e.store) same (told_all entries part store rec at);
+  state = λ store found is.
       let (rec, at, same) = some_mapped (record_at store (records_of entries)) (store_of entries) found (sym (entry_map (store_of entries) (λ r. refl) store (records_of entries)) ∙ is) in
-      subst (λ (e : StoreEntry). e.store.state ≡ Up) same (told_all entries store rec at).1;
+      subst (λ (e : StoreEntry). e.store.state ≡ state_or_up (record_at store (stores_told (handed_to entries)))) same (state_all entries part store rec at);
   rising = rising_of (store_of entries) (λ r. refl) (records_of entries) (rise_all entries);
 }

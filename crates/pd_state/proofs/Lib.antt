@@ -1,7 +1,13 @@
 pub mod Rows
+pub mod RuleTexts
+pub mod HandedLemmas
+pub mod RulesTold
+pub mod Refusals
+pub mod CallLemmas
 pub mod Refines
 pub mod Places
 pub mod Ranged
 pub mod KnownLemmas
+pub mod ToldLemmas
 pub mod Moments
 pub mod HeardLemmas

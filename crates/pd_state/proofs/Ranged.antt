@@ -18,7 +18,10 @@ use Rattle.pd_state.specs.declared.reply.Reply.{Reply}
 use Rattle.pd_state.specs.declared.reply.Reply.TheVariants as replies
 use Rattle.pd_state.specs.Since.{since_by, since}
 use Rattle.pd_state.specs.State.{accepted_by, beats_of, part_of}
-use Rattle.pd_state.specs.Legal.{beat_reply, first_reply, IsLegal}
+use Rattle.pd_state.specs.Heard.{heard_of}
+use Rattle.pd_state.specs.Replies.{beat_reply}
+use Rattle.pd_state.specs.Legal.{first_reply, IsLegal}
+use Rattle.pd_state.specs.declared.heard.Heard.{Heard}
 use Rattle.pd_state.proofs.Refines.{entry_of}
 
 checked_by : (o : Option BeatFault) (removed : ℕ) (beat : RegionBeat) (held : List RegionBeat) → replies.Accepted removed ≡ beat_reply (intake_by o beat held) → o ≡ None
@@ -35,22 +38,22 @@ AreRanged es = All HasRange (beats_of es)
 some_is : (es fs : List Entry) → Some es ≡ Some fs → AreRanged es → AreRanged fs
 some_is es fs h ranged = let e : es ≡ fs = cc in subst AreRanged e ranged
 
-ranged_more : (s : Option (List Entry)) (actor : Actor) (line : ℕ) (r : Request) (p : Reply) → ((es : List Entry) → s ≡ Some es → AreRanged es)
-    → p ≡ first_reply (option_map part_of s) r → (fs : List Entry) → since_by r (entry_of actor line r p) s ≡ Some fs → AreRanged fs
-ranged_more s actor line (ask.Term term moment) (replies.Term t n m) ranged is fs h = some_is _ fs h (All-nil HasRange)
-ranged_more s actor line (ask.Term term moment) p ranged is fs h = absurd cc
-ranged_more s actor line ask.Retire p ranged is fs h = absurd cc
-ranged_more None actor line (ask.Hello store moment address labels) p ranged is fs h = absurd cc
-ranged_more None actor line (ask.Alive store moment) p ranged is fs h = absurd cc
-ranged_more None actor line (ask.Beat store moment beat) p ranged is fs h = absurd cc
-ranged_more (Some es) actor line (ask.Hello store moment address labels) p ranged is fs h = some_is _ fs h (ranged es refl)
-ranged_more (Some es) actor line (ask.Alive store moment) p ranged is fs h = some_is _ fs h (ranged es refl)
-ranged_more (Some es) actor line (ask.Beat store moment beat) p ranged is fs h =
-    some_is (entry_of actor line (ask.Beat store moment beat) p ∷ es) fs h (ranged_beat (beats_of es) beat p is (ranged es refl))
+ranged_more : (s : Option (List Entry)) (actor : Actor) (line : ℕ) (r : Request) (known : Heard) (p : Reply) → ((es : List Entry) → s ≡ Some es → AreRanged es)
+    → p ≡ first_reply (option_map part_of s) r known → (fs : List Entry) → since_by r (entry_of actor line r known p) s ≡ Some fs → AreRanged fs
+ranged_more s actor line (ask.Term term moment) known (replies.Term t n m) ranged is fs h = some_is _ fs h (All-nil HasRange)
+ranged_more s actor line (ask.Term term moment) known p ranged is fs h = absurd cc
+ranged_more s actor line ask.Retire known p ranged is fs h = absurd cc
+ranged_more None actor line (ask.Hello store moment address labels) known p ranged is fs h = absurd cc
+ranged_more None actor line (ask.Alive store moment) known p ranged is fs h = absurd cc
+ranged_more None actor line (ask.Beat store moment beat) known p ranged is fs h = absurd cc
+ranged_more (Some es) actor line (ask.Hello store moment address labels) known p ranged is fs h = some_is _ fs h (ranged es refl)
+ranged_more (Some es) actor line (ask.Alive store moment) known p ranged is fs h = some_is _ fs h (ranged es refl)
+ranged_more (Some es) actor line (ask.Beat store moment beat) known p ranged is fs h =
+    some_is (entry_of actor line (ask.Beat store moment beat) known p ∷ es) fs h (ranged_beat (beats_of es) beat p is (ranged es refl))
 
 ranged_after : (driver : ℕ) (past : List Entry) → IsLegal driver past → (es : List Entry) → since past ≡ Some es → AreRanged es
 ranged_after driver [] legal es h = absurd cc
-ranged_after driver (e ∷ past) legal es h = ranged_more (since past) e.actor e.line e.request e.reply (ranged_after driver past legal.1) legal.0.reply_is es h
+ranged_after driver (e ∷ past) legal es h = ranged_more (since past) e.actor e.line e.request (heard_of e) e.reply (ranged_after driver past legal.1) legal.0.reply_is es h
 
 pub standing_is : (driver : ℕ) (past es : List Entry) → IsLegal driver past → since past ≡ Some es → IsTable (beats_of es) (part_of es).standing
 standing_is driver past es legal h = every_table (beats_of es) (ranged_after driver past legal es h)

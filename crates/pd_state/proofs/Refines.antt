@@ -1,5 +1,5 @@
 -- What one entry more makes of the state is what its step made of the tables.
-use Rattle.std.proofs.Common.{refl, ◌≡◌, ℕ, Bool, true, false, cond, nat_eq, List, [], ◌∷◌, ◌++◌, map, max, reverse, Option, Some, None, ap, sym, ◌∙◌, subst, arith}
+use Rattle.std.proofs.Common.{refl, ◌≡◌, ℕ, Bool, true, false, cond, nat_eq, List, [], ◌∷◌, ◌++◌, map, max, reverse, append_assoc, Option, Some, None, ap, sym, ◌∙◌, subst, arith}
 use Rattle.std.proofs.lemmas.Bool.Decides.{nat_tests}
 use Rattle.std.proofs.lemmas.List.{reverse-append}
 use Rattle.std.specs.Option.{option_map}
@@ -14,21 +14,30 @@ use Rattle.region_tree.proofs.Stand.{stand_more}
 use Rattle.store_table.specs.declared.entry.StoreEntry.{StoreEntry}
 use Rattle.store_table.specs.Standing.{later}
 use Rattle.store_table.specs.Calls.{heard as heard_entry}
-use Rattle.store_table.specs.Entries.{entry_at, state_at, changed}
+use Rattle.store_table.specs.Entries.{entry_at, placed, state_at, changed}
 use Rattle.pd_state.specs.declared.entry.Entry.{Entry}
 use Rattle.pd_state.specs.declared.part.Part.{Part}
 use Rattle.pd_state.specs.declared.reply.Reply.{Reply}
 use Rattle.pd_state.specs.declared.reply.Reply.TheVariants as replies
-use Rattle.pd_state.specs.Since.{since_by, since}
-use Rattle.pd_state.specs.State.{clock_of, term_of, began_of, accepted_by, beats_of, heard, heartbeat, greeting, record_at, kept_state, greeted_by, records_of, store_of, part_of, part_after}
-use Rattle.pd_state.specs.Legal.{alive_reply, begin_reply, term_reply, first_reply, IsLegalAfter, IsLegal}
-use Rattle.pd_state.specs.Clusters.{is_refused, with_clock}
-use Rattle.pd_state.specs.Steps.{greeted, put_after, heard_after, beat_after, changed_part, new_part, stepped}
+use Rattle.meta_store.specs.declared.record.MetaAnswer.{MetaAnswer}
+use Rattle.meta_store.specs.Asked.{AreAsked}
+use Rattle.meta_store.specs.Known.{kept_of}
+use Rattle.pd_state.specs.declared.heard.Heard.{Heard}
+use Rattle.pd_state.specs.Calls.{next_call}
+use Rattle.pd_state.specs.HandedOut.{record_at}
+use Rattle.pd_state.specs.Heard.{answers_of, heard_of, known_after, known_more}
+use Rattle.pd_state.specs.Replies.{alive_reply}
+use Rattle.pd_state.specs.Since.{begun, since_by, since}
+use Rattle.pd_state.specs.State.{clock_of, term_of, began_of, accepted_by, beats_of, heard, heartbeat, greeting, kept_state, greeted_by, moment_of, records_of, rules_of, store_of, part_of, part_after}
+use Rattle.pd_state.specs.Legal.{first_reply, IsLegalAfter, IsLegal}
+use Rattle.pd_state.specs.Clusters.{is_refused, refused_by, refuses, with_clock}
+use Rattle.pd_state.specs.Steps.{begun_part, greeted, put_after, heard_after, beat_after, changed_part, new_part, stepped}
+use Rattle.pd_state.proofs.Refusals.{kept_greeted, kept_id}
 use Rattle.pd_state.proofs.Rows.{entry_map, placed_map, unknown_before, found_id}
 
 -- an entry, by its parts
-abbrev pub entry_of : Actor → ℕ → Request → Reply → Entry
-entry_of actor line request reply = record { actor = actor; line = line; request = request; reply = reply }
+abbrev pub entry_of : Actor → ℕ → Request → Heard → Reply → Entry
+entry_of actor line request heard reply = record { actor = actor; line = line; request = request; answers = heard.answers; reply = reply }
 
 -- a store that isn't known sent no heartbeat
 abbrev pub Silent : List Entry → Type 0
@@ -39,24 +48,20 @@ heard_own store moment before =
     let here : nat_eq store store ≡ true = grind (arith, nat_tests) in
     ap (λ (t : Bool). cond t (Some (later before moment)) before) here
 
-abbrev hello_of : Actor → ℕ → ℕ → ℕ → List ℕ → List Label → Reply → Entry
-hello_of actor line store moment address labels p = entry_of actor line (ask.Hello store moment address labels) p
+abbrev hello_of : Actor → ℕ → ℕ → ℕ → List ℕ → List Label → Heard → Reply → Entry
+hello_of actor line store moment address labels known p = entry_of actor line (ask.Hello store moment address labels) known p
 
 -- the entry of a store that says hello
-hello_entry : (es : List Entry) (actor : Actor) (line store moment : ℕ) (address : List ℕ) (labels : List Label) (o : Option StoreRec)
+hello_entry : (es : List Entry) (actor : Actor) (line store moment : ℕ) (address : List ℕ) (labels : List Label) (known : Heard) (o : Option StoreRec)
     → (o ≡ None → heartbeat es store ≡ None) → ((r : StoreRec) → o ≡ Some r → r.id ≡ store)
     → greeted (option_map (store_of es) o) (greeting store address labels) (began_of es) moment
-    ≡ store_of (hello_of actor line store moment address labels replies.StorePut ∷ es) (kept_state o (greeting store address labels))
-hello_entry es actor line store moment address labels None silent id =
+    ≡ store_of (hello_of actor line store moment address labels known replies.StorePut ∷ es) (kept_state o (greeting store address labels))
+hello_entry es actor line store moment address labels known None silent id =
     let e : Some moment ≡ heard store store moment (heartbeat es store) = ap (λ (b : Option ℕ). Some (later b moment)) (sym (silent refl)) ∙ sym (heard_own store moment (heartbeat es store)) in
     ap (λ (b : Option ℕ). let x : StoreEntry = record { store = greeting store address labels; began = began_of es; beat = b } in x) e
-hello_entry es actor line store moment address labels (Some r) silent id =
+hello_entry es actor line store moment address labels known (Some r) silent id =
     let e : Some (later (heartbeat es r.id) moment) ≡ heard store store moment (heartbeat es store) = ap (λ (n : ℕ). Some (later (heartbeat es n) moment)) (id r refl) ∙ sym (heard_own store moment (heartbeat es store)) in
     ap (λ (b : Option ℕ). let x : StoreEntry = record { store = record (greeting store address labels) { state = r.state }; began = began_of es; beat = b } in x) e
-
-kept_id : (o : Option StoreRec) (rec : StoreRec) → (kept_state o rec).id ≡ rec.id
-kept_id None rec = refl
-kept_id (Some r) rec = refl
 
 -- the entries of other stores stay
 other_row : (t : Bool) (rec : StoreRec) (began moment : ℕ) (before : Option ℕ) → t ≡ false
@@ -71,107 +76,133 @@ heard_row : (t : Bool) (rec : StoreRec) (began moment : ℕ) (before : Option �
 heard_row true rec began moment before = refl
 heard_row false rec began moment before = refl
 
-rows_hello : (es : List Entry) (actor : Actor) (line store moment : ℕ) (address : List ℕ) (labels : List Label) (p : Reply) → Silent es
+rows_hello : (es : List Entry) (actor : Actor) (line store moment : ℕ) (address : List ℕ) (labels : List Label) (known : Heard) (p : Reply) → Silent es
     → put_after p (greeted (entry_at store (map (store_of es) (records_of es))) (greeting store address labels) (began_of es) moment) (map (store_of es) (records_of es))
-    ≡ map (store_of (hello_of actor line store moment address labels p ∷ es)) (greeted_by p (greeting store address labels) (records_of es))
-rows_hello es actor line store moment address labels replies.StorePut silent =
+    ≡ map (store_of (hello_of actor line store moment address labels known p ∷ es)) (greeted_by p (greeting store address labels) (records_of es))
+rows_hello es actor line store moment address labels known replies.StorePut silent =
     let rec = kept_state (record_at store (records_of es)) (greeting store address labels) in
-    let known = entry_map (store_of es) (λ r. refl) store (records_of es) in
-    let is = ap (λ (o : Option StoreEntry). greeted o (greeting store address labels) (began_of es) moment) known
-    ∙ hello_entry es actor line store moment address labels (record_at store (records_of es)) (silent store) (found_id store (records_of es)) in
+    let there = entry_map (store_of es) (λ r. refl) store (records_of es) in
+    let is = ap (λ (o : Option StoreEntry). greeted o (greeting store address labels) (began_of es) moment) there
+    ∙ hello_entry es actor line store moment address labels known (record_at store (records_of es)) (silent store) (found_id store (records_of es)) in
     let id = kept_id (record_at store (records_of es)) (greeting store address labels) in
-    placed_map (store_of es) (store_of (hello_of actor line store moment address labels replies.StorePut ∷ es)) (λ r. refl)
+    placed_map (store_of es) (store_of (hello_of actor line store moment address labels known replies.StorePut ∷ es)) (λ r. refl)
     (kept_state (record_at store (records_of es)) (greeting store address labels)) _ (ap (λ (e : StoreEntry). e.store.id) is) is
     (λ r other. other_row (nat_eq r.id store) r (began_of es) moment (heartbeat es r.id) (subst (λ (n : ℕ). nat_eq r.id n ≡ false) id other)) (records_of es)
-rows_hello es actor line store moment address labels p silent = refl
+rows_hello es actor line store moment address labels known p silent = refl
 
-alive_rows : (es : List Entry) (actor : Actor) (line store moment : ℕ) (recs : List StoreRec)
-    → changed store (heard_entry moment) (map (store_of es) recs) ≡ map (store_of (entry_of actor line (ask.Alive store moment) replies.Alive ∷ es)) recs
-alive_rows es actor line store moment [] = refl
-alive_rows es actor line store moment (r ∷ recs) = λ i. heard_row (nat_eq r.id store) r (began_of es) moment (heartbeat es r.id) i ∷ alive_rows es actor line store moment recs i
+alive_rows : (es : List Entry) (actor : Actor) (line store moment : ℕ) (known : Heard) (recs : List StoreRec)
+    → changed store (heard_entry moment) (map (store_of es) recs) ≡ map (store_of (entry_of actor line (ask.Alive store moment) known replies.Alive ∷ es)) recs
+alive_rows es actor line store moment known [] = refl
+alive_rows es actor line store moment known (r ∷ recs) = λ i. heard_row (nat_eq r.id store) r (began_of es) moment (heartbeat es r.id) i ∷ alive_rows es actor line store moment known recs i
 
-rows_alive : (es : List Entry) (actor : Actor) (line store moment : ℕ) (p : Reply)
-    → heard_after p store moment (map (store_of es) (records_of es)) ≡ map (store_of (entry_of actor line (ask.Alive store moment) p ∷ es)) (records_of es)
-rows_alive es actor line store moment replies.Alive = alive_rows es actor line store moment (records_of es)
-rows_alive es actor line store moment p = refl
+rows_alive : (es : List Entry) (actor : Actor) (line store moment : ℕ) (known : Heard) (p : Reply)
+    → heard_after p store moment (map (store_of es) (records_of es)) ≡ map (store_of (entry_of actor line (ask.Alive store moment) known p ∷ es)) (records_of es)
+rows_alive es actor line store moment known replies.Alive = alive_rows es actor line store moment known (records_of es)
+rows_alive es actor line store moment known p = refl
 
 regions_is : (bs : List RegionBeat) (beat : RegionBeat) (p : Reply) → beat_after p beat (table_of bs) ≡ table_of (accepted_by p beat bs)
 regions_is bs beat (replies.Accepted removed) = sym (stand_more beat bs)
 regions_is bs beat p = refl
 
-after_hello : (es : List Entry) (actor : Actor) (line store moment : ℕ) (address : List ℕ) (labels : List Label) (p : Reply) → Silent es
-    → changed_part (part_of es) (ask.Hello store moment address labels) p ≡ part_of (hello_of actor line store moment address labels p ∷ es)
-after_hello es actor line store moment address labels p silent = λ i. record {
+-- what is known after answers more
+known_is : (xs ys : List MetaAnswer) → known_after xs (kept_of ys) ≡ kept_of (reverse xs ++ ys)
+known_is [] ys = refl
+known_is (x ∷ xs) ys = known_is xs (x ∷ ys) ∙ ap kept_of (sym (append_assoc (reverse xs) (x ∷ []) ys) ∙ ap (λ (l : List MetaAnswer). l ++ ys) (sym (reverse-append (x ∷ []) xs)))
+
+-- the record that a hello writes goes to its own store
+written : (o : Option StoreEntry) (rec : StoreRec) (began moment : ℕ) (entries : List StoreEntry) → o ≡ entry_at rec.id entries
+    → greeted (entry_at (kept_state (option_map (λ (e : StoreEntry). e.store) o) rec).id entries) (kept_state (option_map (λ (e : StoreEntry). e.store) o) rec) began moment ≡ greeted o rec began moment
+written o rec began moment entries is =
+    ap (λ (n : ℕ). greeted (entry_at n entries) (kept_state (option_map (λ (e : StoreEntry). e.store) o) rec) began moment) (kept_id (option_map (λ (e : StoreEntry). e.store) o) rec)
+    ∙ ap (λ (p : Option StoreEntry). greeted p (kept_state (option_map (λ (e : StoreEntry). e.store) o) rec) began moment) (sym is) ∙ kept_greeted o rec began moment
+
+after_hello : (es : List Entry) (actor : Actor) (line store moment : ℕ) (address : List ℕ) (labels : List Label) (known : Heard) (p : Reply) → Silent es
+    → changed_part (part_of es) (ask.Hello store moment address labels) p known ≡ part_of (hello_of actor line store moment address labels known p ∷ es)
+after_hello es actor line store moment address labels known p silent = λ i. record {
   term = term_of es;
   began = began_of es;
   clock = max (clock_of es) moment;
   standing = table_of (beats_of es);
-  stores = rows_hello es actor line store moment address labels p silent i;
+  stores = (ap (λ (e : StoreEntry). put_after p e (map (store_of es) (records_of es))) (written (entry_at store (map (store_of es) (records_of es))) (greeting store address labels) (began_of es) moment (map (store_of es) (records_of es)) refl)
+      ∙ rows_hello es actor line store moment address labels known p silent) i;
+  rules = rules_of es;
+  known = known_is known.answers (answers_of es) i;
 }
 
-after_alive : (es : List Entry) (actor : Actor) (line store moment : ℕ) (p : Reply)
-    → changed_part (part_of es) (ask.Alive store moment) p ≡ part_of (entry_of actor line (ask.Alive store moment) p ∷ es)
-after_alive es actor line store moment p = λ i. record {
+after_alive : (es : List Entry) (actor : Actor) (line store moment : ℕ) (known : Heard) (p : Reply)
+    → changed_part (part_of es) (ask.Alive store moment) p known ≡ part_of (entry_of actor line (ask.Alive store moment) known p ∷ es)
+after_alive es actor line store moment known p = λ i. record {
   term = term_of es;
   began = began_of es;
   clock = max (clock_of es) moment;
   standing = table_of (beats_of es);
-  stores = rows_alive es actor line store moment p i;
+  stores = rows_alive es actor line store moment known p i;
+  rules = rules_of es;
+  known = known_is known.answers (answers_of es) i;
 }
 
-after_beat : (es : List Entry) (actor : Actor) (line store moment : ℕ) (beat : RegionBeat) (p : Reply)
-    → changed_part (part_of es) (ask.Beat store moment beat) p ≡ part_of (entry_of actor line (ask.Beat store moment beat) p ∷ es)
-after_beat es actor line store moment beat p = λ i. record {
+after_beat : (es : List Entry) (actor : Actor) (line store moment : ℕ) (beat : RegionBeat) (known : Heard) (p : Reply)
+    → changed_part (part_of es) (ask.Beat store moment beat) p known ≡ part_of (entry_of actor line (ask.Beat store moment beat) known p ∷ es)
+after_beat es actor line store moment beat known p = λ i. record {
   term = term_of es;
   began = began_of es;
   clock = max (clock_of es) moment;
   stores = map (store_of es) (records_of es);
   standing = regions_is (beats_of es) beat p i;
+  rules = rules_of es;
+  known = known_is known.answers (answers_of es) i;
 }
 
 -- a Term's tables are those of its entry alone
-after_term : (actor : Actor) (line term moment : ℕ) → new_part term moment ≡ part_of (entry_of actor line (ask.Term term moment) (begin_reply term) ∷ [])
-after_term actor line term moment =
-    let e : moment ≡ max 0 moment = omega arith in
-    ap (λ (c : ℕ). let p : Part = record { term = term; began = moment; clock = c; stores = []; standing = [] } in p) e
+after_term : (actor : Actor) (line term moment : ℕ) (known : Heard) (p : Reply) → new_part term moment known.answers ≡ part_of (entry_of actor line (ask.Term term moment) known p ∷ [])
+after_term actor line term moment known p = λ i. record {
+  term = term;
+  began = moment;
+  clock = own i;
+  stores = part.stores;
+  standing = [];
+  rules = part.rules;
+  known = known_is known.answers [] i;
+}
+  where
+    part : Part
+    part = new_part term moment known.answers
 
-refines_by : (s : Option (List Entry)) (actor : Actor) (line : ℕ) (r : Request) → ((es : List Entry) → s ≡ Some es → Silent es)
-    → stepped (option_map part_of s) r (first_reply (option_map part_of s) r) ≡ option_map part_of (since_by r (entry_of actor line r (first_reply (option_map part_of s) r)) s)
-refines_by None actor line (ask.Term term moment) silent = ap Some (after_term actor line term moment)
-refines_by (Some es) actor line (ask.Term term moment) silent = ap Some (after_term actor line term moment)
-refines_by None actor line ask.Retire silent = refl
-refines_by None actor line (ask.Hello store moment address labels) silent = refl
-refines_by None actor line (ask.Alive store moment) silent = refl
-refines_by None actor line (ask.Beat store moment beat) silent = refl
-refines_by (Some es) actor line ask.Retire silent = refl
-refines_by (Some es) actor line (ask.Hello store moment address labels) silent =
-    ap Some (after_hello es actor line store moment address labels (term_reply (part_of es) (ask.Hello store moment address labels)) (silent es refl))
-refines_by (Some es) actor line (ask.Alive store moment) silent = ap Some (after_alive es actor line store moment (term_reply (part_of es) (ask.Alive store moment)))
-refines_by (Some es) actor line (ask.Beat store moment beat) silent = ap Some (after_beat es actor line store moment beat (term_reply (part_of es) (ask.Beat store moment beat)))
+    own : moment ≡ max 0 moment
+    own = omega arith
 
-pub refines : (driver : ℕ) (past : List Entry) (e : Entry) → ((es : List Entry) → since past ≡ Some es → Silent es) → IsLegalAfter driver past e
-    → stepped (part_after past) e.request e.reply ≡ part_after (e ∷ past)
-refines driver past e silent legal =
-    subst (λ (p : Reply). stepped (part_after past) e.request p ≡ option_map part_of (since_by e.request (entry_of e.actor e.line e.request p) (since past))) (sym legal.reply_is)
-    (refines_by (since past) e.actor e.line e.request silent)
+begins_by : (actor : Actor) (line term moment : ℕ) (known : Heard) (p : Reply) → begun_part p term moment known.answers ≡ option_map part_of (begun p (entry_of actor line (ask.Term term moment) known p))
+begins_by actor line term moment known (replies.Term number stores rules) = ap Some (after_term actor line term moment known (replies.Term number stores rules))
+begins_by actor line term moment known p = refl
+
+refines_by : (s : Option (List Entry)) (actor : Actor) (line : ℕ) (r : Request) (known : Heard) (p : Reply) → ((es : List Entry) → s ≡ Some es → Silent es)
+    → stepped (option_map part_of s) r p known ≡ option_map part_of (since_by r (entry_of actor line r known p) s)
+refines_by s actor line (ask.Term term moment) known p silent = begins_by actor line term moment known p
+refines_by s actor line ask.Retire known p silent = refl
+refines_by None actor line (ask.Hello store moment address labels) known p silent = refl
+refines_by None actor line (ask.Alive store moment) known p silent = refl
+refines_by None actor line (ask.Beat store moment beat) known p silent = refl
+refines_by (Some es) actor line (ask.Hello store moment address labels) known p silent = ap Some (after_hello es actor line store moment address labels known p (silent es refl))
+refines_by (Some es) actor line (ask.Alive store moment) known p silent = ap Some (after_alive es actor line store moment known p)
+refines_by (Some es) actor line (ask.Beat store moment beat) known p silent = ap Some (after_beat es actor line store moment beat known p)
 
 -- silence, over one entry more
-silent_hello : (es : List Entry) (actor : Actor) (line store moment : ℕ) (address : List ℕ) (labels : List Label) (p : Reply) → Silent es → Silent (hello_of actor line store moment address labels p ∷ es)
-silent_hello es actor line store moment address labels replies.StorePut silent = λ other k.
+silent_hello : (es : List Entry) (actor : Actor) (line store moment : ℕ) (address : List ℕ) (labels : List Label) (known : Heard) (p : Reply) → Silent es → Silent (hello_of actor line store moment address labels known p ∷ es)
+silent_hello es actor line store moment address labels known replies.StorePut silent = λ other k.
     let rec = kept_state (record_at store (records_of es)) (greeting store address labels) in
     let before = unknown_before (kept_state (record_at store (records_of es)) (greeting store address labels)) other (records_of es) k in
     let apart = subst (λ (n : ℕ). nat_eq other n ≡ false) (kept_id (record_at store (records_of es)) (greeting store address labels)) before.1 in
     ap (λ (t : Bool). cond t (Some (later (heartbeat es other) moment)) (heartbeat es other)) apart ∙ silent other before.0
-silent_hello es actor line store moment address labels p silent = silent
+silent_hello es actor line store moment address labels known p silent = silent
 
 -- a heartbeat of a store that isn't known isn't taken
 unheard : (o : Option StoreEntry) → o ≡ None → alive_reply (option_map (λ (e : StoreEntry). e.store.state) o) ≡ replies.UnknownStore
 unheard None h = refl
 unheard (Some e) h = absurd cc
 
-silent_alive : (es : List Entry) (actor : Actor) (line store moment : ℕ) (p : Reply) → p ≡ alive_reply (state_at store (map (store_of es) (records_of es))) → Silent es
-    → Silent (entry_of actor line (ask.Alive store moment) p ∷ es)
-silent_alive es actor line store moment replies.Alive is silent = λ other k. by_test other k (nat_eq other store) refl
+silent_alive : (es : List Entry) (actor : Actor) (line store moment : ℕ) (known : Heard) (p : Reply) → p ≡ alive_reply (state_at store (map (store_of es) (records_of es))) → Silent es
+    → Silent (entry_of actor line (ask.Alive store moment) known p ∷ es)
+silent_alive es actor line store moment known replies.Alive is silent = λ other k. by_test other k (nat_eq other store) refl
   where
     by_test : (other : ℕ) → record_at other (records_of es) ≡ None → (t : Bool) → nat_eq other store ≡ t → cond t (Some (later (heartbeat es other) moment)) (heartbeat es other) ≡ None
     by_test other k true t =
@@ -180,68 +211,79 @@ silent_alive es actor line store moment replies.Alive is silent = λ other k. by
         let none = unheard (entry_at store (map (store_of es) (records_of es))) (entry_map (store_of es) (λ r. refl) store (records_of es) ∙ ap (option_map (store_of es)) unknown) in
         absurd (let g : replies.Alive ≡ replies.UnknownStore = is ∙ none in cc)
     by_test other k false t = silent other k
-silent_alive es actor line store moment p is silent = silent
+silent_alive es actor line store moment known p is silent = silent
 
 some_is : (es fs : List Entry) → Some es ≡ Some fs → Silent es → Silent fs
 some_is es fs h silent = let e : es ≡ fs = cc in subst Silent e silent
 
-silent_more : (s : Option (List Entry)) (actor : Actor) (line : ℕ) (r : Request) (p : Reply) → ((es : List Entry) → s ≡ Some es → Silent es)
-    → p ≡ first_reply (option_map part_of s) r → (fs : List Entry) → since_by r (entry_of actor line r p) s ≡ Some fs → Silent fs
-silent_more s actor line (ask.Term term moment) (replies.Term t n m) silent is fs h = some_is _ fs h (λ store k. refl)
-silent_more s actor line (ask.Term term moment) p silent is fs h = absurd cc
-silent_more s actor line ask.Retire p silent is fs h = absurd cc
-silent_more None actor line (ask.Hello store moment address labels) p silent is fs h = absurd cc
-silent_more None actor line (ask.Alive store moment) p silent is fs h = absurd cc
-silent_more None actor line (ask.Beat store moment beat) p silent is fs h = absurd cc
-silent_more (Some es) actor line (ask.Hello store moment address labels) p silent is fs h = some_is _ fs h (silent_hello es actor line store moment address labels p (silent es refl))
-silent_more (Some es) actor line (ask.Alive store moment) p silent is fs h = some_is _ fs h (silent_alive es actor line store moment p is (silent es refl))
-silent_more (Some es) actor line (ask.Beat store moment beat) p silent is fs h = some_is _ fs h (silent es refl)
+silent_more : (s : Option (List Entry)) (actor : Actor) (line : ℕ) (r : Request) (known : Heard) (p : Reply) → ((es : List Entry) → s ≡ Some es → Silent es)
+    → p ≡ first_reply (option_map part_of s) r known → (fs : List Entry) → since_by r (entry_of actor line r known p) s ≡ Some fs → Silent fs
+silent_more s actor line (ask.Term term moment) known (replies.Term t n m) silent is fs h = some_is _ fs h (λ store k. refl)
+silent_more s actor line (ask.Term term moment) known p silent is fs h = absurd cc
+silent_more s actor line ask.Retire known p silent is fs h = absurd cc
+silent_more None actor line (ask.Hello store moment address labels) known p silent is fs h = absurd cc
+silent_more None actor line (ask.Alive store moment) known p silent is fs h = absurd cc
+silent_more None actor line (ask.Beat store moment beat) known p silent is fs h = absurd cc
+silent_more (Some es) actor line (ask.Hello store moment address labels) known p silent is fs h = some_is _ fs h (silent_hello es actor line store moment address labels known p (silent es refl))
+silent_more (Some es) actor line (ask.Alive store moment) known p silent is fs h = some_is _ fs h (silent_alive es actor line store moment known p is (silent es refl))
+silent_more (Some es) actor line (ask.Beat store moment beat) known p silent is fs h = some_is _ fs h (silent es refl)
 
 pub silent_after : (driver : ℕ) (past : List Entry) → IsLegal driver past → (es : List Entry) → since past ≡ Some es → Silent es
 silent_after driver [] legal es h = absurd cc
-silent_after driver (e ∷ past) legal es h = silent_more (since past) e.actor e.line e.request e.reply (silent_after driver past legal.1) legal.0.reply_is es h
+silent_after driver (e ∷ past) legal es h = silent_more (since past) e.actor e.line e.request (heard_of e) e.reply (silent_after driver past legal.1) legal.0.reply_is es h
 
--- a refused request leaves all but the clock
-no_put : (p : Reply) (e : StoreEntry) (es : List StoreEntry) → is_refused p ≡ true → put_after p e es ≡ es
+pub refines : (driver : ℕ) (past : List Entry) (e : Entry) → IsLegal driver past → stepped (part_after past) e.request e.reply (heard_of e) ≡ part_after (e ∷ past)
+refines driver past e legal = refines_by (since past) e.actor e.line e.request (heard_of e) e.reply (silent_after driver past legal)
+
+-- a refused request leaves all but the clock, and what its answers tell
+no_put : (p : Reply) (e : StoreEntry) (es : List StoreEntry) → refuses p ≡ true → put_after p e es ≡ es
 no_put replies.StorePut e es h = absurd cc
 no_put p e es h = refl
 
-no_heard : (p : Reply) (store moment : ℕ) (es : List StoreEntry) → is_refused p ≡ true → heard_after p store moment es ≡ es
+no_heard : (p : Reply) (store moment : ℕ) (es : List StoreEntry) → refuses p ≡ true → heard_after p store moment es ≡ es
 no_heard replies.Alive store moment es h = absurd cc
 no_heard p store moment es h = refl
 
-no_beat : (p : Reply) (beat : RegionBeat) (held : List RegionBeat) → is_refused p ≡ true → beat_after p beat held ≡ held
+no_beat : (p : Reply) (beat : RegionBeat) (held : List RegionBeat) → refuses p ≡ true → beat_after p beat held ≡ held
 no_beat (replies.Accepted removed) beat held h = absurd cc
 no_beat p beat held h = refl
 
-leaves_by : (old : Option Part) (r : Request) (p : Reply) → p ≡ first_reply old r → is_refused p ≡ true → stepped old r p ≡ with_clock r old
-leaves_by old (ask.Term term moment) p is h = absurd (let both : is_refused (begin_reply term) ≡ true = subst (λ (q : Reply). is_refused q ≡ true) (is ∙ begins old term moment) h in cc)
-  where
-    begins : (old : Option Part) (term moment : ℕ) → first_reply old (ask.Term term moment) ≡ begin_reply term
-    begins None term moment = refl
-    begins (Some part) term moment = refl
-leaves_by None ask.Retire p is h = refl
-leaves_by (Some part) ask.Retire p is h = absurd (let both : is_refused replies.Retired ≡ true = subst (λ (q : Reply). is_refused q ≡ true) is h in cc)
-leaves_by None (ask.Hello store moment address labels) p is h = refl
-leaves_by None (ask.Alive store moment) p is h = refl
-leaves_by None (ask.Beat store moment beat) p is h = refl
-leaves_by (Some part) (ask.Hello store moment address labels) p is h =
-    ap (λ (es : List StoreEntry). Some (record part { clock = max part.clock moment; stores = es })) (no_put p _ part.stores h)
-leaves_by (Some part) (ask.Alive store moment) p is h =
-    ap (λ (es : List StoreEntry). Some (record part { clock = max part.clock moment; stores = es })) (no_heard p store moment part.stores h)
-leaves_by (Some part) (ask.Beat store moment beat) p is h =
-    ap (λ (held : List RegionBeat). Some (record part { clock = max part.clock moment; standing = held })) (no_beat p beat part.standing h)
+abbrev pub told_raised : Request → List MetaAnswer → Part → Part
+told_raised request answers part = record part { clock = max part.clock (moment_of request); known = known_after answers part.known }
+
+leaves_by : (old : Option Part) (r : Request) (known : Heard) (p : Reply) → p ≡ first_reply old r known → refused_by r p ≡ true → stepped old r p known ≡ option_map (told_raised r known.answers) old
+leaves_by old (ask.Term term moment) known p is h = absurd cc
+leaves_by None ask.Retire known p is h = refl
+leaves_by (Some part) ask.Retire known p is h = absurd (let both : refuses replies.Retired ≡ true = subst (λ (q : Reply). refuses q ≡ true) is h in cc)
+leaves_by None (ask.Hello store moment address labels) known p is h = refl
+leaves_by None (ask.Alive store moment) known p is h = refl
+leaves_by None (ask.Beat store moment beat) known p is h = refl
+leaves_by (Some part) (ask.Hello store moment address labels) known p is h =
+    ap (λ (es : List StoreEntry). Some (record part { clock = max part.clock moment; known = known_after known.answers part.known; stores = es })) (no_put p _ part.stores h)
+leaves_by (Some part) (ask.Alive store moment) known p is h =
+    ap (λ (es : List StoreEntry). Some (record part { clock = max part.clock moment; known = known_after known.answers part.known; stores = es })) (no_heard p store moment part.stores h)
+leaves_by (Some part) (ask.Beat store moment beat) known p is h =
+    ap (λ (held : List RegionBeat). Some (record part { clock = max part.clock moment; known = known_after known.answers part.known; standing = held })) (no_beat p beat part.standing h)
 
 -- the journal that serve leaves
 pub served : (driver : ℕ) (entries after : List Entry) (e : Entry) (old new : Option Part) → after ≡ entries ++ e ∷ [] → IsLegal driver (reverse entries) → old ≡ part_after (reverse entries)
-    → e.reply ≡ first_reply old e.request → new ≡ stepped old e.request e.reply
+    → e.reply ≡ first_reply old e.request (heard_of e) → AreAsked (next_call old e.request) [] e.answers → new ≡ stepped old e.request e.reply (heard_of e)
     → (IsLegal driver (reverse after) × (new ≡ part_after (reverse after))) × IsLegalAfter driver (reverse entries) e
-served driver entries after e old new is legal holds reply_is steps =
-    let here : IsLegalAfter driver (reverse entries) e = record { reply_is = reply_is ∙ ap (λ (o : Option Part). first_reply o e.request) holds } in
+served driver entries after e old new is legal holds reply_is asked steps =
+    let here : IsLegalAfter driver (reverse entries) e = record {
+      reply_is = reply_is ∙ ap (λ (o : Option Part). first_reply o e.request (heard_of e)) holds;
+      asked = subst (λ (o : Option Part). AreAsked (next_call o e.request) [] e.answers) holds asked;
+    } in
     let back : reverse after ≡ e ∷ reverse entries = ap reverse is ∙ reverse-append entries (e ∷ []) in
-    let now : new ≡ part_after (e ∷ reverse entries) = steps ∙ ap (λ (o : Option Part). stepped o e.request e.reply) holds ∙ refines driver (reverse entries) e (silent_after driver (reverse entries) legal) here in
+    let now : new ≡ part_after (e ∷ reverse entries) = steps ∙ ap (λ (o : Option Part). stepped o e.request e.reply (heard_of e)) holds ∙ refines driver (reverse entries) e legal in
     let both : IsLegal driver (e ∷ reverse entries) × (new ≡ part_after (e ∷ reverse entries)) = ((here, legal), now) in
     (subst (λ (l : List Entry). IsLegal driver l × (new ≡ part_after l)) (sym back) both, here)
 
-pub leaves : (old new : Option Part) (r : Request) (p : Reply) → p ≡ first_reply old r → new ≡ stepped old r p → is_refused p ≡ true → new ≡ with_clock r old
-leaves old new r p reply_is steps h = steps ∙ leaves_by old r p reply_is h
+pub leaves : (old new : Option Part) (e : Entry) → e.reply ≡ first_reply old e.request (heard_of e) → new ≡ stepped old e.request e.reply (heard_of e) → is_refused e ≡ true → new ≡ with_clock e old
+leaves old new e reply_is steps h = steps ∙ leaves_by old e.request (heard_of e) e.reply reply_is h
+
+-- a store whose record was written
+pub welcomed : (old mid new : Part) (store moment : ℕ) (address : List ℕ) (labels : List Label) (rec : StoreRec) (answer : MetaAnswer) (reply : Reply) (known : Heard) → mid ≡ record old { clock = max old.clock moment }
+    → rec ≡ kept_state (option_map (λ (e : StoreEntry). e.store) (entry_at store mid.stores)) (greeting store address labels) → reply ≡ replies.StorePut → known.answers ≡ answer ∷ []
+    → new ≡ record mid { stores = placed (greeted (entry_at rec.id mid.stores) rec mid.began moment) mid.stores; known = known_more mid.known answer } → new ≡ changed_part old (ask.Hello store moment address labels) reply known
+welcomed old mid new store moment address labels rec answer reply known mid_is rec_is reply_is known_is new_is = rw (new_is, rec_is, mid_is, reply_is, known_is) refl

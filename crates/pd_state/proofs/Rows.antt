@@ -8,7 +8,7 @@ use Rattle.pd_types.specs.declared.store.StoreState.{StoreState}
 use Rattle.store_table.specs.declared.entry.StoreEntry.{StoreEntry}
 use Rattle.store_table.specs.Calls.{loaded, answered, heard as heard_entry}
 use Rattle.store_table.specs.Entries.{entry_at, state_at, placed, changed}
-use Rattle.pd_state.specs.State.{record_at, with_record}
+use Rattle.pd_state.specs.HandedOut.{record_at, with_record}
 use Rattle.pd_state.specs.Steps.{greeted}
 
 -- what stands behind what was filtered

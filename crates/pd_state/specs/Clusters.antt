@@ -2,11 +2,15 @@
 use Rattle.std.specs.Prelude.{◌≡◌, ℕ, List, [], ◌∷◌, ◌++◌, reverse, Bool, true, false, Option, option_map, max}
 use Rattle.pd_types.specs.declared.oracle.Actor.{Actor}
 use Rattle.pd_types.specs.declared.request.Request.{Request}
+use Rattle.pd_types.specs.declared.request.Request.TheVariants as ask
+use Rattle.meta_store.specs.declared.record.MetaAnswer.{MetaAnswer}
+use Rattle.meta_store.specs.declared.record.MetaEntry.{MetaEntry}
 use Rattle.pd_state.specs.declared.entry.Entry.{Entry}
 use Rattle.pd_state.specs.declared.part.Part.{Part}
 use Rattle.pd_state.specs.declared.reply.Reply.{Reply}
 use Rattle.pd_state.specs.declared.reply.Reply.TheVariants as replies
 use Rattle.pd_state.specs.State.{moment_of, part_after}
+use Rattle.pd_state.specs.Heard.{known_after, told_all}
 use Rattle.pd_state.specs.Legal.{IsLegalAfter}
 
 -- a cluster: its driver, its journal, whether want of memory ended it, and its tables
@@ -30,35 +34,62 @@ pub record Died (old new : ClusterValue) : Type 0 where
   pub entries_is : new.entries ≡ old.entries
   pub dead_is : new.dead ≡ true
 
--- the reply refuses its request
-abbrev pub is_refused : Reply → Bool
-is_refused replies.NotLeading = true
-is_refused (replies.Term term stores rules) = false
-is_refused replies.Retired = false
-is_refused replies.Tombstone = true
-is_refused replies.Limit = true
-is_refused replies.StorePut = false
-is_refused replies.UnknownStore = true
-is_refused replies.Alive = false
-is_refused (replies.Bad fault) = true
-is_refused (replies.Stale kept) = true
-is_refused replies.Full = true
-is_refused (replies.Accepted removed) = false
+-- the reply is a refusal
+abbrev pub refuses : Reply → Bool
+refuses replies.NotLeading = true
+refuses (replies.Term term stores rules) = false
+refuses replies.Retired = false
+refuses (replies.OldTerm fence) = true
+refuses (replies.Conflict found) = true
+refuses replies.MetaLimit = true
+refuses replies.Tombstone = true
+refuses replies.Limit = true
+refuses replies.StorePut = false
+refuses replies.UnknownStore = true
+refuses replies.Alive = false
+refuses (replies.Bad fault) = true
+refuses (replies.Stale kept) = true
+refuses replies.Full = true
+refuses (replies.Accepted removed) = false
 
--- the tables with the clock raised to a moment, and nothing else changed
-abbrev pub raised : ℕ → Part → Part
-raised moment part = record part { clock = max part.clock moment }
+-- a request with this reply is refused; a Term isn't among these, since a refused one ends the term before it
+abbrev pub refused_by : Request → Reply → Bool
+refused_by (ask.Term term moment) reply = false
+refused_by _ reply = refuses reply
+
+-- the entry is a request that was refused, and no Term
+abbrev pub is_refused : Entry → Bool
+is_refused entry = refused_by entry.request entry.reply
+
+-- the tables with the clock raised to the entry's moment and its answers heard, and nothing else changed
+abbrev pub raised : Entry → Part → Part
+raised entry part = record part { clock = max part.clock (moment_of entry.request); known = known_after entry.answers part.known }
 
 -- the same, where there is a term
-abbrev pub with_clock : Request → Option Part → Option Part
-with_clock request part = option_map (raised (moment_of request)) part
+abbrev pub with_clock : Entry → Option Part → Option Part
+with_clock entry part = option_map (raised entry) part
 
--- one entry was appended, of this actor, line and request, with this reply, and the entries before it allow it; a refused request leaves all but the clock
-pub record Served (old new : ClusterValue) (actor : Actor) (line : ℕ) (request : Request) (reply : Reply) : Type 0 where
+-- what a door said and told, before and after
+pub record Spoken : Type 0 where
+  pub said_old : List MetaAnswer
+  pub said_new : List MetaAnswer
+  pub told_old : Option (List MetaEntry)
+  pub told_new : Option (List MetaEntry)
+
+-- One entry was appended, of this actor, line and request, with this reply, and the entries before it allow it; the door said just
+-- its answers, and told their calls; a refused request leaves all but the clock and what its answers tell of revisions
+pub record Served (old new : ClusterValue) (door : Spoken) (actor : Actor) (line : ℕ) (request : Request) (reply : Reply) : Type 0 where
+  pub entry : Entry
   pub alive : old.dead ≡ false
   pub driver_is : new.driver ≡ old.driver
-  pub appended : new.entries ≡ old.entries ++ record { actor = actor; line = line; request = request; reply = reply } ∷ []
+  pub appended : new.entries ≡ old.entries ++ entry ∷ []
+  pub actor_is : entry.actor ≡ actor
+  pub line_is : entry.line ≡ line
+  pub request_is : entry.request ≡ request
+  pub reply_is : entry.reply ≡ reply
+  pub said : door.said_new ≡ door.said_old ++ entry.answers
+  pub told : door.told_new ≡ told_all door.told_old old.driver entry.answers
   pub lives : new.dead ≡ false
   pub replays : new.part ≡ part_after (reverse new.entries)
-  pub legal : IsLegalAfter old.driver (reverse old.entries) (record { actor = actor; line = line; request = request; reply = reply })
-  pub leaves : is_refused reply ≡ true → new.part ≡ with_clock request old.part
+  pub legal : IsLegalAfter old.driver (reverse old.entries) entry
+  pub leaves : is_refused entry ≡ true → new.part ≡ with_clock entry old.part

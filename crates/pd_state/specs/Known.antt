@@ -1,14 +1,23 @@
--- Which stores a cluster knows: those that said hello in its term (kvproto pdpb, `PutStore`). Each list of entries has the latest first.
-use Rattle.std.specs.Prelude.{◌≡◌, ℕ, Bool, false, nat_eq, List, ◌∷◌, ◌++◌, Some}
-use Rattle.std.specs.List.{list_any}
+-- What a cluster knows in its term: the stores that it was handed and those that said hello (kvproto pdpb, `PutStore`). Each list of entries has the latest first.
+use Rattle.std.specs.Prelude.{◌≡◌, ◌⊎◌, ℕ, ◌≤◌, Bool, false, ◌||◌, nat_eq, List, [], ◌∷◌, ◌++◌, length, map, Option, Some, None, All, Contains, filter_map}
+use Rattle.std.specs.List.{Any, list_any}
 use Rattle.std.specs.Option.{is_some}
 use Rattle.pd_types.specs.declared.request.Request.{Request}
 use Rattle.pd_types.specs.declared.request.Request.TheVariants as ask
+use Rattle.pd_types.specs.declared.rule.Rule.{Rule}
 use Rattle.pd_types.specs.declared.store.Label.{Label}
+use Rattle.pd_types.specs.declared.store.StoreRec.{StoreRec}
+use Rattle.pd_types.specs.declared.store.StoreState.{StoreState}
 use Rattle.pd_types.specs.declared.store.StoreState.TheVariants as states
+use Rattle.meta_store.specs.declared.record.Cell.{Cell}
+use Rattle.meta_store.specs.Cells.{AreRising as AreInKeyOrder}
 use Rattle.store_table.specs.declared.entry.StoreEntry.{StoreEntry}
 use Rattle.store_table.specs.Entries.{AreRising, entry_at}
+use Rattle.pd_state.specs.HandedOut.{or_default, record_at, rules_told, store_in, stores_told}
+use Rattle.pd_state.specs.Heard.{handed_out}
+use Rattle.pd_state.specs.StoredRules.{rule_in}
 use Rattle.pd_state.specs.declared.entry.Entry.{Entry}
+use Rattle.pd_state.specs.declared.part.Part.{Part}
 use Rattle.pd_state.specs.declared.reply.Reply.{Reply}
 use Rattle.pd_state.specs.declared.reply.Reply.TheVariants as replies
 
@@ -37,10 +46,55 @@ pub record LastHello (entries : List Entry) (store : ℕ) (address : List ℕ) (
   pub put : hello.reply ≡ replies.StorePut
   pub last : list_any (is_hello store) later ≡ false
 
--- the stores that the entries of a term make known: exactly those of which a hello was accepted, each Up and with the address and
--- the labels of the last one, by rising ids
+-- the records that the Term was handed, which is the first of these entries
+abbrev pub begun_with : Request → List Cell → List Cell → List Cell
+begun_with (ask.Term term moment) own before = own
+begun_with _ own before = before
+
+-- the records that a term part was handed
+abbrev pub handed_to : List Entry → List Cell
+handed_to [] = []
+handed_to (entry ∷ entries) = begun_with entry.request (handed_out entry.answers) (handed_to entries)
+
+-- the state that a store had among the records; a new store is Up
+abbrev pub state_or_up : Option StoreRec → StoreState
+state_or_up None = states.Up
+state_or_up (Some rec) = rec.state
+
+-- no hello of the store was accepted, and this is its record as it was handed out
+pub record WasHanded (entries : List Entry) (store : ℕ) (rec : StoreRec) : Type 0 where
+  pub unheard : list_any (is_hello store) entries ≡ false
+  pub handed : record_at store (stores_told (handed_to entries)) ≡ Some rec
+
+-- The stores that a term part knows: exactly those that it was handed and those of which a hello was accepted. Each has the address
+-- and the labels of its last accepted hello, or else those that were handed out, and the state that was, Up for a new one; they
+-- stand by rising ids
 pub record AreKnown (entries : List Entry) (stores : List StoreEntry) : Type 0 where
-  pub known : (store : ℕ) → is_some (entry_at store stores) ≡ list_any (is_hello store) entries
-  pub told : (store : ℕ) (found : StoreEntry) → entry_at store stores ≡ Some found → LastHello entries store found.store.address found.store.labels
-  pub up : (store : ℕ) (found : StoreEntry) → entry_at store stores ≡ Some found → found.store.state ≡ states.Up
+  pub known : (store : ℕ) → is_some (entry_at store stores) ≡ (list_any (is_hello store) entries || is_some (record_at store (stores_told (handed_to entries))))
+  pub told : (store : ℕ) (found : StoreEntry) → entry_at store stores ≡ Some found → LastHello entries store found.store.address found.store.labels ⊎ WasHanded entries store found.store
+  pub state : (store : ℕ) (found : StoreEntry) → entry_at store stores ≡ Some found → found.store.state ≡ state_or_up (record_at store (stores_told (handed_to entries)))
   pub rising : AreRising stores
+
+-- The stores that records tell: each is told by one of them; where the records rise by key and no more than 256 tell a store, each that
+-- one of them tells is there; never more than 256 are
+pub record AreTold (cells : List Cell) (recs : List StoreRec) : Type 0 where
+  pub only : (store : ℕ) (rec : StoreRec) → record_at store recs ≡ Some rec → Any (λ cell. store_in cell ≡ Some rec) cells
+  pub every : AreInKeyOrder cells → length (filter_map store_in cells) ≤ 256 → All (λ cell. (rec : StoreRec) → store_in cell ≡ Some rec → record_at rec.id recs ≡ Some rec) cells
+  pub few : length recs ≤ 256
+
+-- The rules that records tell: each is told by one of them; where the records rise by key and no more than 64 tell a rule, each that
+-- one of them tells is there; never more than 64 are
+pub record AreRulesTold (cells : List Cell) (rules : List Rule) : Type 0 where
+  pub only : (rule : Rule) → Contains rules rule → Any (λ cell. rule_in cell ≡ Some rule) cells
+  pub every : AreInKeyOrder cells → length (filter_map rule_in cells) ≤ 64 → All (λ cell. (rule : Rule) → rule_in cell ≡ Some rule → Contains rules rule) cells
+  pub few : length rules ≤ 64
+
+-- a term that begins knows the stores and rules that it was handed, has heard of no store and has no region
+pub record BeginsAnew (part : Part) (term moment : ℕ) (cells : List Cell) : Type 0 where
+  pub term_is : part.term ≡ term
+  pub began_is : part.began ≡ moment
+  pub clock_is : part.clock ≡ moment
+  pub stores : map (λ (entry : StoreEntry). entry.store) part.stores ≡ stores_told cells
+  pub silent : All (λ entry. entry.beat ≡ None) part.stores
+  pub regions : part.standing ≡ []
+  pub rules : part.rules ≡ or_default (rules_told cells)

@@ -1,6 +1,11 @@
 pub mod ReplyText
+pub mod Heard
+pub mod StoredRules
+pub mod HandedOut
 pub mod Since
 pub mod State
+pub mod Replies
+pub mod Calls
 pub mod Legal
 pub mod Clusters
 pub mod Steps

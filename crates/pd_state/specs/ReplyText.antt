@@ -10,6 +10,9 @@ abbrev pub reply_text : Reply → List ℕ
 reply_text replies.NotLeading = codes "not-leading"
 reply_text (replies.Term term stores rules) = codes "term " ++ decimal term ++ codes " stores " ++ decimal stores ++ codes " rules " ++ decimal rules
 reply_text replies.Retired = codes "retired"
+reply_text (replies.OldTerm fence) = codes "old-term " ++ decimal fence
+reply_text (replies.Conflict found) = codes "conflict " ++ decimal found
+reply_text replies.MetaLimit = codes "meta-limit"
 reply_text replies.Tombstone = codes "tombstone"
 reply_text replies.Limit = codes "limit"
 reply_text replies.StorePut = codes "store put"

@@ -1,15 +1,20 @@
--- What the entries of a term part say of the present: its clock, stores and regions. Each list of entries has the latest first.
-use Rattle.std.specs.Prelude.{ℕ, nat_eq, nat_lt, max, if◌then◌else◌, List, [], ◌∷◌, ◌++◌, filter, find, map, Option, Some, None, option_map}
+-- What the entries of a term part say of the present: its clock, stores, rules, regions, and which revisions it knows. Each list of entries has the latest first.
+use Rattle.std.specs.Prelude.{ℕ, nat_eq, max, if◌then◌else◌, List, [], ◌∷◌, map, Option, Some, None, option_map}
 use Rattle.pd_types.specs.declared.region.RegionBeat.{RegionBeat}
 use Rattle.pd_types.specs.declared.request.Request.{Request}
 use Rattle.pd_types.specs.declared.request.Request.TheVariants as ask
+use Rattle.pd_types.specs.declared.rule.Rule.{Rule}
 use Rattle.pd_types.specs.declared.store.Label.{Label}
 use Rattle.pd_types.specs.declared.store.StoreRec.{StoreRec}
 use Rattle.pd_types.specs.declared.store.StoreState.TheVariants.{Up}
 use Rattle.region_tree.specs.Standing.{table_of}
 use Rattle.store_table.specs.declared.entry.StoreEntry.{StoreEntry}
 use Rattle.store_table.specs.Standing.{later}
+use Rattle.meta_store.specs.Known.{kept_of}
+use Rattle.pd_state.specs.HandedOut.{or_default, record_at, rules_told, stores_told, with_record}
+use Rattle.pd_state.specs.Heard.{answers_of, handed_out, heard_of}
 use Rattle.pd_state.specs.declared.entry.Entry.{Entry}
+use Rattle.pd_state.specs.declared.heard.Heard.{Heard}
 use Rattle.pd_state.specs.declared.part.Part.{Part}
 use Rattle.pd_state.specs.declared.reply.Reply.{Reply}
 use Rattle.pd_state.specs.declared.reply.Reply.TheVariants as replies
@@ -92,33 +97,36 @@ heartbeat (entry ∷ entries) store = heartbeat_by entry.request entry.reply sto
 abbrev pub greeting : ℕ → List ℕ → List Label → StoreRec
 greeting store address labels = record { id = store; address = address; labels = labels; state = Up }
 
--- the record of this store, where it is known
-abbrev pub record_at : ℕ → List StoreRec → Option StoreRec
-record_at store recs = find (λ rec. nat_eq rec.id store) recs
-
 -- a known store keeps its state
 abbrev pub kept_state : Option StoreRec → StoreRec → StoreRec
 kept_state None rec = rec
 kept_state (Some known) rec = record rec { state = known.state }
-
--- the record behind those of lesser ids and before those of greater ids, in place of one with its id
-abbrev pub with_record : StoreRec → List StoreRec → List StoreRec
-with_record rec recs = filter (λ one. nat_lt one.id rec.id) recs ++ (rec ∷ filter (λ one. nat_lt rec.id one.id) recs)
 
 -- an accepted hello changes the record of its store
 abbrev pub greeted_by : Reply → StoreRec → List StoreRec → List StoreRec
 greeted_by replies.StorePut rec recs = with_record (kept_state (record_at rec.id recs) rec) recs
 greeted_by _ rec recs = recs
 
--- no other request changes a record
-abbrev pub records_by : Request → Reply → List StoreRec → List StoreRec
-records_by (ask.Hello store moment address labels) reply recs = greeted_by reply (greeting store address labels) recs
-records_by _ reply recs = recs
+-- a Term's records are those that it was handed, and no request but a hello changes one
+abbrev pub records_by : Request → Reply → Heard → List StoreRec → List StoreRec
+records_by (ask.Term term moment) reply heard recs = stores_told (handed_out heard.answers)
+records_by (ask.Hello store moment address labels) reply heard recs = greeted_by reply (greeting store address labels) recs
+records_by _ reply heard recs = recs
 
--- the records that the Term handed out, which are none, with the later accepted changes
+-- the records that the Term was handed, with the later accepted changes
 abbrev pub records_of : List Entry → List StoreRec
 records_of [] = []
-records_of (entry ∷ entries) = records_by entry.request entry.reply (records_of entries)
+records_of (entry ∷ entries) = records_by entry.request entry.reply (heard_of entry) (records_of entries)
+
+-- a Term's rules are those that it was handed
+abbrev pub rules_by : Request → Reply → Heard → List Rule → List Rule
+rules_by (ask.Term term moment) reply heard rules = or_default (rules_told (handed_out heard.answers))
+rules_by _ reply heard rules = rules
+
+-- the rules that the Term was handed, with the later accepted changes
+abbrev pub rules_of : List Entry → List Rule
+rules_of [] = []
+rules_of (entry ∷ entries) = rules_by entry.request entry.reply (heard_of entry) (rules_of entries)
 
 -- a record with the beginning of the term and the store's last heartbeat
 abbrev pub store_of : List Entry → StoreRec → StoreEntry
@@ -132,6 +140,8 @@ part_of entries = record {
   clock = clock_of entries;
   stores = map (store_of entries) (records_of entries);
   standing = table_of (beats_of entries);
+  rules = rules_of entries;
+  known = kept_of (answers_of entries);
 }
 
 -- the tables after a journal: none without a term part

@@ -1,11 +1,14 @@
 // A cluster, which serves one request after another.
 ghost use Rattle.std.specs.Prelude.{◌≡◌, [], false, true, None, IfOk, OnErr, option_copied, reverse};
+ghost use Rattle.meta_store.specs.Doors.{Serves};
 ghost use Rattle.pd_state.specs.Clusters.{cluster_value, Died, Replays, Served};
 ghost use Rattle.pd_state.specs.Legal.{IsLegal};
 
+use crate::heard::{Done, Heard};
 use crate::serve::step;
 use crate::{Entry, Journal, Part, Reply};
-use pd_types::{Actor, NoMemory, Request};
+use meta_store::Door;
+use pd_types::{Actor, Duplicate, NoMemory, Request};
 use std::alloc::Global;
 use std::marker::Model;
 
@@ -47,27 +50,39 @@ impl Cluster {
         }
     }
 
-    /// Serves one request and appends its entry; the reply is the first that applies over the
-    /// entries before it. After want of memory no entry was appended, and every later call answers
-    /// it too.
-    pub fn serve(&mut self, actor: Actor, line: u32, request: Request) -> Result<Reply, NoMemory>
-        ensures ok { IfOk result (λ reply. Served self.old self.new actor line request reply) }
+    /// Serves one request over the metadata's door, which serves this driver, and appends its entry;
+    /// the reply is the first that applies over the entries before it and what the door answered.
+    /// After want of memory no entry was appended, and every later call answers it too; what the
+    /// door did stays done.
+    pub fn serve<M: Door>(
+        &mut self,
+        actor: Actor,
+        line: u32,
+        request: Request,
+        door: &mut M,
+    ) -> Result<Reply, NoMemory>
+        requires { Serves (M.place door.old) self.old.driver }
+        ensures ok { IfOk result (λ reply. Served self.old self.new (record { said_old = M.said door.old; said_new = M.said door.new; told_old = M.told door.old; told_new = M.told door.new }) actor line request reply) }
         ensures err { OnErr result (Died self.old self.new) }
+        ensures place { M.place door.new ≡ M.place door.old }
     {
         if self.dead {
             return Err(NoMemory);
         }
         // The tables may be left half changed from here on.
         self.dead = true;
-        let reply = step(self.alloc, &mut self.part, &request)?;
+        let Done { reply, heard } = step(self.alloc, self.driver, &mut self.part, &request, door)?;
+        let Heard { answers } = heard;
+        let answered = reply.copy(self.alloc)?;
         self.entries.push(Entry {
             actor,
             line,
             request,
+            answers,
             reply,
         })?;
         self.dead = false;
-        Ok(reply)
+        Ok(answered)
     }
 
     /// The journal: all requests with their replies, in order. It replays to the tables, unless want

@@ -1,12 +1,15 @@
 use crate::Reply;
+use meta_store::MetaAnswers;
 use pd_types::{Actor, Request, Seq};
 
-/// A request that a cluster served: who asked, at which line, what, and what was answered.
-#[derive(Debug, Drop, PartialEq)]
+/// A request that a cluster served: who asked, at which line, what, what the metadata answered to
+/// its calls, in their order, and what was replied.
+#[derive(Debug, Drop)]
 pub struct Entry {
     pub actor: Actor,
     pub line: u32,
     pub request: Request,
+    pub answers: MetaAnswers,
     pub reply: Reply,
 }
 

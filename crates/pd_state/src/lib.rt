@@ -3,21 +3,28 @@
 
 mod cluster;
 mod entry;
+mod handed;
+mod heard;
 mod laws;
 mod part;
 mod reply;
+mod rules;
 mod serve;
 mod stores;
 #[cfg(test)]
 mod tests;
+mod write;
 
 pub use cluster::Cluster;
 pub use entry::{Entry, Journal};
+pub use heard::Heard;
 pub use laws::{
-    a_heartbeat_is_answered_as_taken, a_store_is_heard_by_hello_and_alive, a_term_begins_anew,
-    a_term_tells_no_stores_and_one_rule, each_reply_is_the_first_that_applies,
+    a_heartbeat_is_answered_as_taken, a_hello_is_answered_as_it_was_written,
+    a_store_is_heard_by_hello_and_alive, a_term_begins_anew, a_term_tells_its_stores_and_rules,
+    each_reply_is_the_first_that_applies, the_calls_of_each_request,
     the_clock_is_the_greatest_moment, the_regions_are_those_that_stand,
-    the_stores_are_those_that_said_hello, who_is_heard,
+    the_revisions_are_those_heard, the_rules_are_those_that_were_handed_out,
+    the_stores_are_those_that_said_hello, the_stores_are_those_that_were_handed_out, who_is_heard,
 };
 pub use part::Part;
 pub use reply::Reply;

@@ -1,6 +1,8 @@
 ghost use Rattle.std.specs.Prelude.{◌≡◌, max};
 
 use heartbeat::Standing;
+use meta_store::Known;
+use rule_set::RuleSet;
 use store_table::Stores;
 
 /// What a cluster knows in a term. Moments are in milliseconds.
@@ -13,6 +15,9 @@ pub struct Part {
     pub clock: u64,
     pub stores: Stores,
     pub standing: Standing,
+    pub rules: RuleSet,
+    /// The revisions of the metadata's records, as far as the term heard of them.
+    pub known: Known,
 }
 
 impl Part {

@@ -2,11 +2,12 @@ ghost use Rattle.std.specs.Prelude.{◌≡◌, Some};
 ghost use Rattle.pd_types.specs.BeatCheck.{fault_number};
 ghost use Rattle.pd_state.specs.ReplyText.{reply_text};
 
-use pd_types::{BeatFault, Epoch};
+use pd_types::{BeatFault, Duplicate, Epoch, NoMemory};
+use std::alloc::Global;
 use std::fmt;
 
 /// What a cluster answers to a request. It prints as the answer's text.
-#[derive(Clone, Copy, Debug, PartialEq, Eq)]
+#[derive(Debug, Drop, PartialEq, Eq)]
 pub enum Reply {
     /// The cluster has no term.
     NotLeading,
@@ -14,6 +15,12 @@ pub enum Reply {
     Term { term: u64, stores: u64, rules: u64 },
     /// The term was given up.
     Retired,
+    /// A later term was announced, so that nothing was written.
+    OldTerm { fence: u64 },
+    /// The record has another revision than the cluster knows, so that nothing was written.
+    Conflict { found: u64 },
+    /// The metadata has no room, so that nothing was written.
+    MetaLimit,
     /// The store is a tombstone.
     Tombstone,
     /// There are 256 stores, and this one isn't among them.
@@ -60,6 +67,9 @@ impl fmt::Display for Reply {
                 rules,
             } => write!(f, "term {term} stores {stores} rules {rules}"),
             Reply::Retired => write!(f, "retired"),
+            Reply::OldTerm { fence } => write!(f, "old-term {fence}"),
+            Reply::Conflict { found } => write!(f, "conflict {found}"),
+            Reply::MetaLimit => write!(f, "meta-limit"),
             Reply::Tombstone => write!(f, "tombstone"),
             Reply::Limit => write!(f, "limit"),
             Reply::StorePut => write!(f, "store put"),
@@ -77,5 +87,35 @@ impl fmt::Display for Reply {
             Reply::Full => write!(f, "full"),
             Reply::Accepted { removed } => write!(f, "accepted removed {removed} none"),
         }
+    }
+}
+
+impl Duplicate for Reply {
+    fn copy(&self, _alloc: Global) -> Result<Reply, NoMemory> {
+        Ok(match self {
+            Reply::NotLeading => Reply::NotLeading,
+            Reply::Term {
+                term,
+                stores,
+                rules,
+            } => Reply::Term {
+                term: *term,
+                stores: *stores,
+                rules: *rules,
+            },
+            Reply::Retired => Reply::Retired,
+            Reply::OldTerm { fence } => Reply::OldTerm { fence: *fence },
+            Reply::Conflict { found } => Reply::Conflict { found: *found },
+            Reply::MetaLimit => Reply::MetaLimit,
+            Reply::Tombstone => Reply::Tombstone,
+            Reply::Limit => Reply::Limit,
+            Reply::StorePut => Reply::StorePut,
+            Reply::UnknownStore => Reply::UnknownStore,
+            Reply::Alive => Reply::Alive,
+            Reply::Bad(fault) => Reply::Bad(*fault),
+            Reply::Stale { kept } => Reply::Stale { kept: *kept },
+            Reply::Full => Reply::Full,
+            Reply::Accepted { removed } => Reply::Accepted { removed: *removed },
+        })
     }
 }

@@ -1,84 +1,127 @@
 // What a request makes of the tables.
-ghost use Rattle.std.specs.Prelude.{◌≡◌, IfOk};
+ghost use Rattle.std.specs.Prelude.{◌≡◌, ◌++◌, ◌∷◌, [], Some, IfOk};
+ghost use Rattle.heartbeat.specs.Intakes.{intake_of};
+ghost use Rattle.meta_store.specs.Asked.{AreAsked};
+ghost use Rattle.meta_store.specs.Cells.{AreRising};
+ghost use Rattle.meta_store.specs.Doors.{Serves};
+ghost use Rattle.pd_state.specs.Calls.{next_call};
+ghost use Rattle.pd_state.specs.Heard.{nothing, told_all};
 ghost use Rattle.pd_state.specs.Legal.{first_reply, term_reply};
-ghost use Rattle.pd_state.specs.State.{greeting};
-ghost use Rattle.pd_state.specs.Steps.{changed_part, stepped};
+ghost use Rattle.pd_state.specs.Replies.{alive_reply, beat_reply};
+ghost use Rattle.pd_state.specs.Steps.{changed_part, new_part, stepped};
+ghost use Rattle.pd_state.specs.declared.heard.Heard.{Heard};
+ghost use Rattle.store_table.specs.Entries.{state_at};
 
-use crate::stores::{greet, hear};
+use crate::handed::{rules_told, stores_told};
+use crate::heard::{Done, quiet, with_answer};
+use crate::stores::{greet, greeted_record, hear, hello_refusal};
+use crate::write::{put, refusal};
 use crate::{Part, Reply};
 use heartbeat::{Intake, Standing};
-use pd_types::{Duplicate, Labels, NoMemory, RegionBeat, Request, StoreRec, StoreState, Text};
+use meta_store::{Door, Known, MetaAnswer, ask_lead, store_key, store_text};
+use pd_types::{Duplicate, Labels, NoMemory, RegionBeat, Request, Text};
 use std::alloc::Global;
-use store_table::Stores;
 
-// Begins a term, without stores and with the default rule.
-fn begin(alloc: Global, part: &mut Option<Part>, term: u64, moment: u64) -> Reply
-    ensures reply { result ≡ first_reply part.old (Request.Term term moment) }
-    ensures after { part.new ≡ stepped part.old (Request.Term term moment) result }
+// The tables of a term that was announced, by the records that were handed out.
+fn opened(alloc: Global, term: u64, moment: u64, answer: &MetaAnswer) -> Result<Part, NoMemory>
+    requires { AreRising answer.now.cells }
+    ensures value { IfOk result (λ part. part ≡ new_part term moment (answer.now ∷ [])) }
 {
-    *part = Some(Part {
+    let cells = answer.cells.as_slice();
+    let mut known = Known::new(alloc);
+    known.hear(alloc, answer)?;
+    Ok(Part {
         term,
         began: moment,
         clock: moment,
-        stores: Stores::new(alloc),
+        stores: stores_told(alloc, cells, moment)?,
         standing: Standing::new(alloc),
-    });
-    Reply::Term {
-        term,
-        stores: 0,
-        rules: 1,
+        rules: rules_told(alloc, cells)?,
+        known,
+    })
+}
+
+// Announces a term and begins it, with the stores and rules that were handed out. Where it is
+// refused there is no term afterwards.
+fn begin<M: Door>(
+    alloc: Global,
+    driver: u8,
+    part: &mut Option<Part>,
+    term: u64,
+    moment: u64,
+    door: &mut M,
+) -> Result<Done, NoMemory>
+    requires { Serves (M.place door.old) driver }
+    ensures reply { IfOk result (λ done. done.reply ≡ first_reply part.old (Request.Term term moment) done.heard) }
+    ensures asked { IfOk result (λ done. AreAsked (next_call part.old (Request.Term term moment)) [] done.heard.answers) }
+    ensures after { IfOk result (λ done. part.new ≡ stepped part.old (Request.Term term moment) done.reply done.heard) }
+    ensures said { IfOk result (λ done. M.said door.new ≡ M.said door.old ++ done.heard.answers) }
+    ensures told { IfOk result (λ done. M.told door.new ≡ told_all (M.told door.old) driver done.heard.answers) }
+    ensures place { M.place door.new ≡ M.place door.old }
+{
+    *part = None;
+    let answer = ask_lead(alloc, door, driver, term)?;
+    if let Some(reply) = refusal(answer.verdict) {
+        return with_answer(alloc, reply, answer);
     }
+    let next = opened(alloc, term, moment, &answer)?;
+    let reply = Reply::Term {
+        term,
+        stores: next.stores.len() as u64,
+        rules: next.rules.rules().len() as u64,
+    };
+    *part = Some(next);
+    with_answer(alloc, reply, answer)
 }
 
 // Gives the term up, where there is one.
 fn retire(part: &mut Option<Part>) -> Reply
-    ensures reply { result ≡ first_reply part.old Request.Retire }
-    ensures after { part.new ≡ stepped part.old Request.Retire result }
+    ensures reply { (heard : Heard) → result ≡ first_reply part.old Request.Retire heard }
+    ensures after { (heard : Heard) → part.new ≡ stepped part.old Request.Retire result heard }
 {
-    let reply = match part {
+    match part.take() {
         Some(_) => Reply::Retired,
         None => Reply::NotLeading,
-    };
-    *part = None;
-    reply
+    }
 }
 
-// The record of a store that says hello.
-fn greeting(
+// Writes the record of a store that says hello, and then takes it in.
+fn hello<M: Door>(
     alloc: Global,
-    store: u64,
-    address: &Text,
-    labels: &Labels,
-) -> Result<StoreRec, NoMemory>
-    ensures value { IfOk result (λ rec. rec ≡ greeting store address.now labels.now) }
-{
-    Ok(StoreRec {
-        id: store,
-        address: address.copy(alloc)?,
-        labels: labels.copy(alloc)?,
-        state: StoreState::Up,
-    })
-}
-
-fn hello(
-    alloc: Global,
+    driver: u8,
     part: &mut Part,
     store: u64,
     moment: u64,
     address: &Text,
     labels: &Labels,
-) -> Result<Reply, NoMemory>
-    ensures reply { IfOk result (λ reply. reply ≡ term_reply part.old (Request.Hello store moment address.now labels.now)) }
-    ensures after { IfOk result (λ reply. part.new ≡ changed_part part.old (Request.Hello store moment address.now labels.now) reply) }
+    door: &mut M,
+) -> Result<Done, NoMemory>
+    requires { Serves (M.place door.old) driver }
+    ensures reply { IfOk result (λ done. done.reply ≡ term_reply part.old (Request.Hello store moment address.now labels.now) done.heard) }
+    ensures asked { IfOk result (λ done. AreAsked (next_call (Some part.old) (Request.Hello store moment address.now labels.now)) [] done.heard.answers) }
+    ensures after { IfOk result (λ done. part.new ≡ changed_part part.old (Request.Hello store moment address.now labels.now) done.reply done.heard) }
+    ensures said { IfOk result (λ done. M.said door.new ≡ M.said door.old ++ done.heard.answers) }
+    ensures told { IfOk result (λ done. M.told door.new ≡ told_all (M.told door.old) driver done.heard.answers) }
+    ensures place { M.place door.new ≡ M.place door.old }
 {
     part.advance(moment);
-    let rec = greeting(alloc, store, address, labels)?;
-    greet(&mut part.stores, rec, part.began, moment)
+    if let Some(reply) = hello_refusal(&part.stores, store) {
+        return Ok(quiet(alloc, reply));
+    }
+    let rec = greeted_record(alloc, &part.stores, store, address, labels)?;
+    let key = store_key(alloc, store)?;
+    let text = store_text(alloc, &rec)?;
+    let answer = put(alloc, door, driver, part.term, &mut part.known, key, text)?;
+    if let Some(reply) = refusal(answer.verdict) {
+        return with_answer(alloc, reply, answer);
+    }
+    greet(&mut part.stores, rec, part.began, moment)?;
+    with_answer(alloc, Reply::StorePut, answer)
 }
 
 fn alive(part: &mut Part, store: u64, moment: u64) -> Reply
-    ensures reply { result ≡ term_reply part.old (Request.Alive store moment) }
-    ensures after { part.new ≡ changed_part part.old (Request.Alive store moment) result }
+    ensures reply { result ≡ alive_reply (state_at store part.old.stores) }
+    ensures after { part.new ≡ changed_part part.old (Request.Alive store moment) result nothing }
 {
     part.advance(moment);
     hear(&mut part.stores, store, moment)
@@ -91,8 +134,8 @@ fn beat(
     moment: u64,
     beat: &RegionBeat,
 ) -> Result<Reply, NoMemory>
-    ensures reply { IfOk result (λ reply. reply ≡ term_reply part.old (Request.Beat store moment beat.now)) }
-    ensures after { IfOk result (λ reply. part.new ≡ changed_part part.old (Request.Beat store moment beat.now) reply) }
+    ensures reply { IfOk result (λ reply. reply ≡ beat_reply (intake_of beat.now part.old.standing)) }
+    ensures after { IfOk result (λ reply. part.new ≡ changed_part part.old (Request.Beat store moment beat.now) reply nothing) }
 {
     part.advance(moment);
     match part.standing.intake(beat.copy(alloc)?)? {
@@ -106,33 +149,47 @@ fn beat(
 }
 
 /// Serves one request over the tables. After want of memory nothing is said of them.
-pub fn step(alloc: Global, part: &mut Option<Part>, request: &Request) -> Result<Reply, NoMemory>
-    ensures reply { IfOk result (λ reply. reply ≡ first_reply part.old request.now) }
-    ensures after { IfOk result (λ reply. part.new ≡ stepped part.old request.now reply) }
+pub fn step<M: Door>(
+    alloc: Global,
+    driver: u8,
+    part: &mut Option<Part>,
+    request: &Request,
+    door: &mut M,
+) -> Result<Done, NoMemory>
+    requires { Serves (M.place door.old) driver }
+    ensures reply { IfOk result (λ done. done.reply ≡ first_reply part.old request.now done.heard) }
+    ensures asked { IfOk result (λ done. AreAsked (next_call part.old request.now) [] done.heard.answers) }
+    ensures after { IfOk result (λ done. part.new ≡ stepped part.old request.now done.reply done.heard) }
+    ensures said { IfOk result (λ done. M.said door.new ≡ M.said door.old ++ done.heard.answers) }
+    ensures told { IfOk result (λ done. M.told door.new ≡ told_all (M.told door.old) driver done.heard.answers) }
+    ensures place { M.place door.new ≡ M.place door.old }
 {
     match request {
-        Request::Term { term, moment } => Ok(begin(alloc, part, *term, *moment)),
-        Request::Retire => Ok(retire(part)),
+        Request::Term { term, moment } => begin(alloc, driver, part, *term, *moment, door),
+        Request::Retire => Ok(quiet(alloc, retire(part))),
         Request::Hello {
             store,
             moment,
             address,
             labels,
         } => match part {
-            Some(held) => hello(alloc, held, *store, *moment, address, labels),
-            None => Ok(Reply::NotLeading),
+            Some(held) => hello(alloc, driver, held, *store, *moment, address, labels, door),
+            None => Ok(quiet(alloc, Reply::NotLeading)),
         },
         Request::Alive { store, moment } => match part {
-            Some(held) => Ok(alive(held, *store, *moment)),
-            None => Ok(Reply::NotLeading),
+            Some(held) => Ok(quiet(alloc, alive(held, *store, *moment))),
+            None => Ok(quiet(alloc, Reply::NotLeading)),
         },
         Request::Beat {
             store,
             moment,
             beat: heartbeat,
         } => match part {
-            Some(held) => beat(alloc, held, *store, *moment, heartbeat),
-            None => Ok(Reply::NotLeading),
+            Some(held) => {
+                let reply = beat(alloc, held, *store, *moment, heartbeat)?;
+                Ok(quiet(alloc, reply))
+            }
+            None => Ok(quiet(alloc, Reply::NotLeading)),
         },
     }
 }

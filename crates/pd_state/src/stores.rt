@@ -1,12 +1,15 @@
-ghost use Rattle.std.specs.Prelude.{◌≡◌, None, IfOk, length};
+// What hellos and heartbeats make of the stores.
+ghost use Rattle.std.specs.Prelude.{◌≡◌, None, IfOk, OnOk, length, option_map};
 ghost use Rattle.pd_types.specs.declared.store.StoreState.TheVariants as states;
-ghost use Rattle.store_table.specs.Entries.{entry_at, state_at};
-ghost use Rattle.pd_state.specs.Legal.{alive_reply, hello_reply};
-ghost use Rattle.pd_state.specs.Steps.{greeted, heard_after, put_after};
+ghost use Rattle.store_table.specs.Entries.{entry_at, placed, state_at};
+ghost use Rattle.pd_state.specs.Replies.{alive_reply, hello_refusal};
+ghost use Rattle.pd_state.specs.State.{greeting, kept_state};
+ghost use Rattle.pd_state.specs.Steps.{greeted, heard_after};
 
 use crate::Reply;
-use pd_types::{NoMemory, StoreRec, StoreState};
-use store_table::{StoreFault, Stores};
+use pd_types::{Duplicate, Labels, NoMemory, StoreRec, StoreState, Text};
+use std::alloc::Global;
+use store_table::{MOST_STORES, Stores};
 
 // The state of a store, where it is known.
 fn state_of(stores: &Stores, store: u64) -> Option<StoreState>
@@ -18,12 +21,50 @@ fn state_of(stores: &Stores, store: u64) -> Option<StoreState>
     }
 }
 
+/// What refuses a store's hello before the metadata is asked.
+pub fn hello_refusal(stores: &Stores, store: u64) -> Option<Reply>
+    ensures value { result ≡ hello_refusal (state_at store stores.now) (length stores.now) }
+{
+    match state_of(stores, store) {
+        Some(StoreState::Tombstone) => Some(Reply::Tombstone),
+        Some(_) => None,
+        None => {
+            if stores.len() >= MOST_STORES {
+                Some(Reply::Limit)
+            } else {
+                None
+            }
+        }
+    }
+}
+
+/// The record that a store's hello writes: a known store keeps its state, a new one is Up.
+pub fn greeted_record(
+    alloc: Global,
+    stores: &Stores,
+    store: u64,
+    address: &Text,
+    labels: &Labels,
+) -> Result<StoreRec, NoMemory>
+    ensures value { IfOk result (λ rec. rec ≡ kept_state (option_map (λ entry. entry.store) (entry_at store stores.now)) (greeting store address.now labels.now)) }
+{
+    let state = match stores.get(store) {
+        Some(known) => known.state,
+        None => StoreState::Up,
+    };
+    Ok(StoreRec {
+        id: store,
+        address: address.copy(alloc)?,
+        labels: labels.copy(alloc)?,
+        state,
+    })
+}
+
 // Takes in a store that isn't known, with a heartbeat.
-fn take_in(stores: &mut Stores, rec: StoreRec, began: u64, moment: u64) -> Result<Reply, NoMemory>
+fn take_in(stores: &mut Stores, rec: StoreRec, began: u64, moment: u64) -> Result<(), NoMemory>
     requires unknown { state_at rec.id stores.old ≡ None }
     requires up { rec.state ≡ states.Up }
-    ensures reply { IfOk result (λ reply. reply ≡ hello_reply None (length stores.old)) }
-    ensures after { IfOk result (λ reply. stores.new ≡ put_after reply (greeted None rec began moment) stores.old) }
+    ensures ok { OnOk result (stores.new ≡ placed (greeted None rec began moment) stores.old) }
 {
     let id = rec.id;
     match stores.load(rec, began) {
@@ -31,26 +72,24 @@ fn take_in(stores: &mut Stores, rec: StoreRec, began: u64, moment: u64) -> Resul
             let Ok(()) = stores.beat(id, moment) else {
                 unreachable!()
             };
-            Ok(Reply::StorePut)
+            Ok(())
         }
-        Err(StoreFault::Limit) => Ok(Reply::Limit),
+        // The caller tested that there is room, so that memory alone was wanting.
         Err(_) => Err(NoMemory),
     }
 }
 
-/// Takes in the record of a store that is Up, with a heartbeat; a known one keeps its state. The
-/// term of a new store began with that of its cluster, at `began`.
-pub fn greet(stores: &mut Stores, rec: StoreRec, began: u64, moment: u64) -> Result<Reply, NoMemory>
-    requires up { rec.state ≡ states.Up }
-    ensures reply { IfOk result (λ reply. reply ≡ hello_reply (state_at rec.id stores.old) (length stores.old)) }
-    ensures after { IfOk result (λ reply. stores.new ≡ put_after reply (greeted (entry_at rec.id stores.old) rec began moment) stores.old) }
+/// Takes in the record of a store that nothing refuses, with a heartbeat; the term of a new store
+/// began with that of its cluster, at `began`.
+pub fn greet(stores: &mut Stores, rec: StoreRec, began: u64, moment: u64) -> Result<(), NoMemory>
+    requires up { state_at rec.id stores.old ≡ None → rec.state ≡ states.Up }
+    ensures ok { OnOk result (stores.new ≡ placed (greeted (entry_at rec.id stores.old) rec began moment) stores.old) }
 {
     match state_of(stores, rec.id) {
         None => take_in(stores, rec, began, moment),
-        Some(StoreState::Tombstone) => Ok(Reply::Tombstone),
         Some(_) => match stores.put(rec, moment) {
-            Ok(()) => Ok(Reply::StorePut),
-            // A store that is known and no tombstone isn't refused otherwise.
+            Ok(()) => Ok(()),
+            // The caller tested that it is no tombstone, so that memory alone was wanting.
             Err(_) => Err(NoMemory),
         },
     }

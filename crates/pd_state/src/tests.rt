@@ -1,4 +1,5 @@
 use crate::{Cluster, Reply};
+use meta_store::{Meta, store_key};
 use pd_types::{
     Actor, BeatFault, Bytes, Downs, Epoch, Ids, Labels, NoMemory, Peer, Region, RegionBeat,
     Request, Role, Seq, Text,
@@ -90,17 +91,23 @@ fn request(alloc: Global, line: &str) -> Result<Request, NoMemory> {
 }
 
 // What a cluster answers to a line, as it is printed.
-fn answer(alloc: Global, cluster: &mut Cluster, line: &str) -> Result<String, NoMemory> {
-    let reply = cluster.serve(Actor::Store(1), 7, request(alloc, line)?)?;
+fn answer(
+    alloc: Global,
+    cluster: &mut Cluster,
+    meta: &mut Meta,
+    line: &str,
+) -> Result<String, NoMemory> {
+    let reply = cluster.serve(Actor::Store(1), 7, request(alloc, line)?, meta)?;
     Ok(format!(in alloc; "{reply}")?)
 }
 
-// Serves each line, whose answer stands behind ` => `.
+// Serves each line, whose answer stands behind ` => `, over metadata of its own.
 fn serve_all(rt: &impl Abort, alloc: Global, lines: &str) -> Result<Cluster, Fail> {
+    let mut meta = Meta::new(alloc);
     let mut cluster = Cluster::new(alloc, 1);
     for line in lines.lines() {
         let (asked, want) = line.split_once(" => ").unwrap_or((line, ""));
-        let text = answer(alloc, &mut cluster, asked)?;
+        let text = answer(alloc, &mut cluster, &mut meta, asked)?;
         assert_eq!(rt; text.as_str(), want, "at {line}");
     }
     Ok(cluster)
@@ -148,7 +155,8 @@ fn stores_say_hello_and_are_heard(rt: HostRuntime) -> Result<(), Fail> {
     Ok(())
 }
 
-// Without a term nothing is served, and a new term forgets what the old one knew.
+// Without a term nothing is served. A new term knows the stores that were written, and has neither
+// heard them nor their regions.
 const TERMS: &str = "\
 alive 1 500 => not-leading
 hello 1 500 => not-leading
@@ -160,8 +168,9 @@ hello 1 5000 => store put
 hello 1 4000 => store put
 beat 1000 7 - - 1 9 11 => accepted removed 0 none
 beat 1000 7 - - 1 8 11 => stale conf 1 version 9
-term 2 900 => term 2 stores 0 rules 1
-alive 1 900 => unknown-store
+term 2 900 => term 2 stores 1 rules 1
+alive 1 900 => alive
+alive 2 900 => unknown-store
 beat 800 7 - - 1 8 11 => accepted removed 0 none
 retire => retired
 retire => not-leading
@@ -172,7 +181,7 @@ alive 1 900 => not-leading
 fn a_cluster_is_made_anew_with_its_term(rt: HostRuntime) -> Result<(), Fail> {
     let alloc = rt.alloc();
     let cluster = serve_all(&rt, alloc, TERMS)?;
-    assert_eq!(rt; cluster.journal().len(), 16);
+    assert_eq!(rt; cluster.journal().len(), 17);
     assert_eq!(rt; cluster.part().is_none(), true);
     Ok(())
 }
@@ -196,20 +205,135 @@ fn the_clock_is_the_greatest_moment(rt: HostRuntime) -> Result<(), Fail> {
 #[test]
 fn the_257th_store_is_refused(rt: HostRuntime) -> Result<(), Fail> {
     let alloc = rt.alloc();
+    let mut meta = Meta::new(alloc);
     let mut cluster = Cluster::new(alloc, 1);
     let begin = Request::Term {
         term: 1,
         moment: 1000,
     };
-    cluster.serve(Actor::Driver(1), 1, begin)?;
+    cluster.serve(Actor::Driver(1), 1, begin, &mut meta)?;
     for store in 1..258u64 {
         let want = if store < 257 {
             Reply::StorePut
         } else {
             Reply::Limit
         };
-        let reply = cluster.serve(Actor::Store(store), 2, hello(alloc, store, 1000)?)?;
+        let reply = cluster.serve(
+            Actor::Store(store),
+            2,
+            hello(alloc, store, 1000)?,
+            &mut meta,
+        )?;
         assert_eq!(rt; reply, want, "at {store}");
+    }
+    Ok(())
+}
+
+// Puts a record behind the cluster's back, as driver 2.
+fn keep(meta: &mut Meta, key: &[u8], bytes: &[u8]) -> Result<(), Fail> {
+    match meta.put_if(2, 1, key, 0, bytes) {
+        Ok(_) => Ok(()),
+        Err(_) => Err(Fail::new("a record wasn't put")),
+    }
+}
+
+#[test]
+fn a_term_begins_with_256_of_the_stores_that_were_kept(rt: HostRuntime) -> Result<(), Fail> {
+    let alloc = rt.alloc();
+    let mut meta = Meta::new(alloc);
+    for store in 1..258u64 {
+        let key = store_key(alloc, store)?;
+        keep(&mut meta, key.as_slice(), b"up a -")?;
+    }
+    let mut cluster = Cluster::new(alloc, 1);
+    let text = answer(alloc, &mut cluster, &mut meta, "term 1 1000")?;
+    assert_eq!(rt; text.as_str(), "term 1 stores 256 rules 1");
+    Ok(())
+}
+
+// Rows of a kept record, its bytes, and what a term begins with. A record that doesn't read is passed
+// over, and so is one under another key than its own.
+const KEPT: [(&str, &str, &str); 6] = [
+    (
+        "store/00000000000000000001",
+        "offline a -",
+        "term 1 stores 1 rules 1",
+    ),
+    (
+        "store/00000000000000000001",
+        "up a",
+        "term 1 stores 0 rules 1",
+    ),
+    ("store/1", "up a -", "term 1 stores 0 rules 1"),
+    (
+        "rule/7064/78",
+        r#"{"group_id":"pd","id":"x","role":"voter","count":1}"#,
+        "term 1 stores 0 rules 1",
+    ),
+    (
+        "rule/7064/78",
+        r#"{"group_id":"pd","id":"y","role":"voter","count":1}"#,
+        "term 1 stores 0 rules 1",
+    ),
+    ("id", "1001000", "term 1 stores 0 rules 1"),
+];
+
+#[test]
+fn a_term_begins_with_the_records_that_read(rt: HostRuntime) -> Result<(), Fail> {
+    let alloc = rt.alloc();
+    for (key, bytes, want) in KEPT {
+        let mut meta = Meta::new(alloc);
+        keep(&mut meta, key.as_bytes(), bytes.as_bytes())?;
+        let mut cluster = Cluster::new(alloc, 1);
+        let text = answer(alloc, &mut cluster, &mut meta, "term 1 1000")?;
+        assert_eq!(rt; text.as_str(), want, "at {key} {bytes}");
+    }
+    Ok(())
+}
+
+#[test]
+fn a_stored_rule_stands_in_place_of_the_default_rule(rt: HostRuntime) -> Result<(), Fail> {
+    let alloc = rt.alloc();
+    let mut meta = Meta::new(alloc);
+    let (key, bytes, _) = KEPT[3];
+    keep(&mut meta, key.as_bytes(), bytes.as_bytes())?;
+    let mut cluster = Cluster::new(alloc, 1);
+    answer(alloc, &mut cluster, &mut meta, "term 1 1000")?;
+    let id = match cluster
+        .part()
+        .and_then(|part| part.rules.rules().as_slice().first())
+    {
+        Some(rule) => rule.id.as_str(),
+        None => "",
+    };
+    assert_eq!(rt; id, "x");
+    Ok(())
+}
+
+// A write behind the cluster's back, and a later term: the cluster's own writes are refused, and a
+// term that is refused leaves none.
+#[test]
+fn a_write_is_guarded_by_the_term_and_the_revision(rt: HostRuntime) -> Result<(), Fail> {
+    let alloc = rt.alloc();
+    let mut meta = Meta::new(alloc);
+    let mut cluster = Cluster::new(alloc, 1);
+    answer(alloc, &mut cluster, &mut meta, "term 1 1000")?;
+    let key = store_key(alloc, 1)?;
+    keep(&mut meta, key.as_slice(), b"up a -")?;
+    let text = answer(alloc, &mut cluster, &mut meta, "hello 1 1000")?;
+    assert_eq!(rt; text.as_str(), "conflict 1");
+    let Ok(_) = meta.lead(2, 5) else {
+        return Err(Fail::new("no lead"));
+    };
+    let rows = [
+        ("hello 1 1000", "old-term 5"),
+        ("alive 1 1000", "unknown-store"),
+        ("term 3 1000", "old-term 5"),
+        ("alive 1 1000", "not-leading"),
+    ];
+    for (line, want) in rows {
+        let text = answer(alloc, &mut cluster, &mut meta, line)?;
+        assert_eq!(rt; text.as_str(), want, "at {line}");
     }
     Ok(())
 }
@@ -217,8 +341,14 @@ fn the_257th_store_is_refused(rt: HostRuntime) -> Result<(), Fail> {
 #[test]
 fn an_entry_has_its_actor_line_and_request(rt: HostRuntime) -> Result<(), Fail> {
     let alloc = rt.alloc();
+    let mut meta = Meta::new(alloc);
     let mut cluster = Cluster::new(alloc, 1);
-    cluster.serve(Actor::Store(4), 9, request(alloc, "alive 4 500")?)?;
+    cluster.serve(
+        Actor::Store(4),
+        9,
+        request(alloc, "alive 4 500")?,
+        &mut meta,
+    )?;
     let Some(entry) = cluster.journal().as_slice().first() else {
         return Err(Fail::new("no entry"));
     };
@@ -233,6 +363,9 @@ fn an_entry_has_its_actor_line_and_request(rt: HostRuntime) -> Result<(), Fail> 
 #[test]
 fn replies_are_printed(rt: HostRuntime) -> Result<(), Fail> {
     let rows = [
+        (Reply::OldTerm { fence: 7 }, "old-term 7"),
+        (Reply::Conflict { found: 3 }, "conflict 3"),
+        (Reply::MetaLimit, "meta-limit"),
         (Reply::Tombstone, "tombstone"),
         (Reply::Limit, "limit"),
         (Reply::Full, "full"),

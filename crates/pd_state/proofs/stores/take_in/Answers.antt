@@ -11,6 +11,7 @@ unreachable-requires c =
     let both = sym none ∙ c.in_default.ensures.refused in
     cc
 
-pub returns-in-Ok-beat-clause-after : goal.returns-in-Ok-beat-clause-after
-returns-in-Ok-beat-clause-after c =
-    c.in-Ok-beat.ensures.ok ∙ ap (changed c.args.rec.id (heard c.args.moment)) c.in-Ok.ensures.ok ∙ changed_placed c.args.rec c.args.began c.args.moment c.args.stores.now
+pub returns-in-Ok-beat : goal.returns-in-Ok-beat
+returns-in-Ok-beat c = record {
+  ok = c.in-Ok-beat.ensures.ok ∙ ap (changed c.args.rec.id (heard c.args.moment)) c.in-Ok.ensures.ok ∙ changed_placed c.args.rec c.args.began c.args.moment c.args.stores.now;
+}

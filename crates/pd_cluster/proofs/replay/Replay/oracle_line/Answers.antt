@@ -1,6 +1,6 @@
 use Rattle.std.proofs.Common.{◌<◌, None, length, refl, ap, ◌∙◌, arith}
 use Rattle.std.specs.Prelude.{get_or}
-use Rattle.pd_cluster.specs.Clusters.{journals_of, state_of}
+use Rattle.pd_cluster.specs.Clusters.{kept_of, state_of}
 use Rattle.pd_cluster.proofs.Histories.{actor_low}
 use Rattle.pd_cluster.proofs.Serving.{any_default, line_is}
 use Rattle.pd_cluster.proofs.replay.Replay.oracle_line.Goals as goal
@@ -15,6 +15,6 @@ pub returns-clause-after : goal.returns-clause-after
 returns-clause-after c =
     let within : c.driver_in-driver.result < length c.args.self.now.leads.items = omega (arith, c.driver_in-driver.ensures.value, actor_low _ _ _ _ c.requires.actor c.requires.lawful, c.requires.ready.leads) in
     line_is (state_of c.args.self.now) c.args.line.now c.in_ok-reply.reply c.driver_in-driver.result c.index-lead.result.now c.lead_after.result c.asked_besides-request.result
-    c.step.new.core _ (journals_of c.serve_besides.new.clusters.items) c.driver_in-driver.ensures.value
+    c.step.new.core _ (kept_of c.serve_besides.new.clusters.items c.serve_besides.new.meta) c.driver_in-driver.ensures.value
     (c.index-lead.ensures ∙ any_default c.args.self.now.leads.items c.driver_in-driver.result _ None within ∙ ap (λ n. get_or c.args.self.now.leads.items n None) c.driver_in-driver.ensures.value)
     c.in_ok-reply.ensures.reply c.asked_besides-request.ensures.value c.lead_after.ensures.value c.in_ok-reply.ensures.after refl c.in_ok-serve_besides.ensures.after

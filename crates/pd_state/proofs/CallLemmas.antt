@@ -1,0 +1,139 @@
+-- Which calls were made, by what was asked.
+use Rattle.std.proofs.Common.{refl, ◌≡◌, ◌≢◌, ℕ, ◌≤◌, ◌<◌, Bool, true, false, cond, nat_le, List, [], ◌∷◌, ◌++◌, length, ap, sym, subst, ◌∙◌, Option, Some, None, arith}
+use Rattle.std.specs.Option.{option_map}
+use Rattle.pd_types.specs.declared.region.RegionBeat.{RegionBeat}
+use Rattle.pd_types.specs.declared.request.Request.{Request}
+use Rattle.pd_types.specs.declared.request.Request.TheVariants as ask
+use Rattle.pd_types.specs.declared.store.Label.{Label}
+use Rattle.pd_types.specs.declared.store.StoreState.{StoreState}
+use Rattle.pd_types.specs.declared.store.StoreState.TheVariants as states
+use Rattle.store_table.specs.declared.entry.StoreEntry.{StoreEntry}
+use Rattle.store_table.specs.declared.table.TheConstants.{MOST_STORES}
+use Rattle.store_table.specs.Entries.{entry_at, state_at}
+use Rattle.meta_store.specs.declared.record.MetaAnswer.{MetaAnswer}
+use Rattle.meta_store.specs.declared.record.MetaCall.{MetaCall}
+use Rattle.meta_store.specs.declared.record.MetaCall.TheVariants as calls
+use Rattle.meta_store.specs.Asked.{AreAsked}
+use Rattle.meta_store.specs.Cells.{cell_at, revision_in}
+use Rattle.meta_store.specs.Past.{is_accepted}
+use Rattle.meta_store.specs.Stores.{store_bytes, store_key}
+use Rattle.pd_state.specs.declared.part.Part.{Part}
+use Rattle.pd_state.specs.declared.reply.Reply.{Reply}
+use Rattle.pd_state.specs.declared.reply.Reply.TheVariants as replies
+use Rattle.pd_state.specs.Calls.{AreCalls, AreLeft, greeted_record, hello_calls, in_turn, next_call, put_call, unless}
+use Rattle.pd_state.specs.Replies.{hello_refusal}
+use Rattle.pd_state.specs.State.{greeting, kept_state}
+
+-- behind an answer, the calls that are left
+behind : (t : Bool) (call : MetaCall) (calls : List MetaCall) (answer : MetaAnswer) (before answers : List MetaAnswer) → is_accepted answer.verdict ≡ t → AreAsked (in_turn (call ∷ calls)) (answer ∷ before) answers
+    → AreLeft t (AreAsked (in_turn calls) before answers) answers
+behind true call calls answer before [] is asked = sym (ap (λ (t : Bool). cond t (in_turn calls before) None) is) ∙ asked
+behind true call calls answer before (a ∷ answers) is asked =
+    (sym (ap (λ (t : Bool). cond t (in_turn calls before) None) is) ∙ asked.0, behind true call calls answer (before ++ a ∷ []) answers is asked.1)
+behind false call calls answer before [] is asked = refl
+behind false call calls answer before (a ∷ answers) is asked = absurd (let both : None ≡ Some a.call = sym (ap (λ (t : Bool). cond t (in_turn calls before) None) is) ∙ asked.0 in cc)
+
+some_call : (a b : MetaCall) → Some a ≡ Some b → b ≡ a
+some_call a b h = cc
+
+left : (t : Bool) (A B : Type 0) (answers : List MetaAnswer) → (A → B) → AreLeft t A answers → AreLeft t B answers
+left true A B answers f a = f a
+left false A B answers f none = none
+
+pub asked_calls : (calls : List MetaCall) (answers : List MetaAnswer) → AreAsked (in_turn calls) [] answers → AreCalls calls answers
+asked_calls [] [] asked = refl
+asked_calls [] (a ∷ answers) asked = absurd (let h = asked.0 in cc)
+asked_calls (call ∷ calls) [] asked = absurd cc
+asked_calls (call ∷ calls) (a ∷ answers) asked =
+    (some_call call a.call asked.0, left (is_accepted a.verdict) (AreAsked (in_turn calls) [] answers) (AreCalls calls answers) answers (asked_calls calls answers) (behind (is_accepted a.verdict) call calls a [] answers refl asked.1))
+
+left_few : (t : Bool) (A : Type 0) (n : ℕ) (answers : List MetaAnswer) → (A → length answers ≤ n) → AreLeft t A answers → length answers ≤ n
+left_few true A n answers f a = f a
+left_few false A n answers f none = omega (arith, ap length none)
+
+pub few_calls : (calls : List MetaCall) (answers : List MetaAnswer) → AreCalls calls answers → length answers ≤ length calls
+few_calls [] answers are = omega (arith, ap length are)
+few_calls (call ∷ calls) [] are = omega arith
+few_calls (call ∷ calls) (a ∷ answers) are =
+    let rest = left_few (is_accepted a.verdict) (AreCalls calls answers) (length calls) answers (few_calls calls answers) are.1 in
+    omega (arith, rest)
+
+pub no_calls : (answers : List MetaAnswer) → AreAsked (λ before. None) [] answers → answers ≡ []
+no_calls [] asked = refl
+no_calls (a ∷ answers) asked = absurd (let h = asked.0 in cc)
+
+unless_few : (o : Option Reply) (call : MetaCall) → length (unless o (call ∷ [])) ≤ 1
+unless_few None call = omega arith
+unless_few (Some reply) call = omega arith
+
+-- a request makes two calls at most
+pub two_calls : (part : Option Part) (request : Request) (answers : List MetaAnswer) → AreAsked (next_call part request) [] answers → length answers ≤ 2
+two_calls part (ask.Term term moment) answers asked = omega (arith, few_calls (calls.Lead term ∷ []) answers (asked_calls (calls.Lead term ∷ []) answers asked))
+two_calls (Some part) (ask.Hello store moment address labels) answers asked =
+    let few = few_calls (hello_calls part store address labels) answers (asked_calls (hello_calls part store address labels) answers asked) in
+    let one = unless_few (hello_refusal (state_at store part.stores) (length part.stores)) (put_call part (store_key store) (store_bytes (greeted_record part store address labels))) in
+    omega (arith, few, one)
+two_calls None (ask.Hello store moment address labels) answers asked = omega (arith, ap length (no_calls answers asked))
+two_calls None (ask.Alive store moment) answers asked = omega (arith, ap length (no_calls answers asked))
+two_calls (Some part) (ask.Alive store moment) answers asked = omega (arith, ap length (no_calls answers asked))
+two_calls None (ask.Beat store moment beat) answers asked = omega (arith, ap length (no_calls answers asked))
+two_calls (Some part) (ask.Beat store moment beat) answers asked = omega (arith, ap length (no_calls answers asked))
+two_calls None ask.Retire answers asked = omega (arith, ap length (no_calls answers asked))
+two_calls (Some part) ask.Retire answers asked = omega (arith, ap length (no_calls answers asked))
+
+-- the calls of each request
+pub term_calls : (part : Option Part) (term moment : ℕ) (answers : List MetaAnswer) → AreAsked (next_call part (ask.Term term moment)) [] answers → AreCalls (calls.Lead term ∷ []) answers
+term_calls part term moment answers asked = asked_calls (calls.Lead term ∷ []) answers asked
+
+room : (known : ℕ) → known < 256 → hello_refusal None known ≡ None
+room known few = ap (λ (t : Bool). cond t (Some replies.Limit) None) (not_full known few)
+  where
+    not_full : (known : ℕ) → known < 256 → nat_le MOST_STORES known ≡ false
+    not_full known few = grind arith
+
+pub new_calls : (part : Part) (store moment : ℕ) (address : List ℕ) (labels : List Label) (answers : List MetaAnswer) → AreAsked (next_call (Some part) (ask.Hello store moment address labels)) [] answers
+    → entry_at store part.stores ≡ None → length part.stores < 256
+    → AreCalls (calls.Put part.term (store_key store) (revision_in (cell_at (store_key store) part.known)) (store_bytes (record { id = store; address = address; labels = labels; state = states.Up })) ∷ []) answers
+new_calls part store moment address labels answers asked none few =
+    let free : hello_refusal (state_at store part.stores) (length part.stores) ≡ None = ap (λ (o : Option StoreEntry). hello_refusal (option_map (λ (e : StoreEntry). e.store.state) o) (length part.stores)) none ∙ room (length part.stores) few in
+    let are : hello_calls part store address labels ≡ put_call part (store_key store) (store_bytes (greeting store address labels)) ∷ [] =
+    ap (λ (o : Option Reply). unless o (put_call part (store_key store) (store_bytes (greeted_record part store address labels)) ∷ [])) free
+    ∙ ap (λ (o : Option StoreEntry). put_call part (store_key store) (store_bytes (kept_state (option_map (λ (e : StoreEntry). e.store) o) (greeting store address labels))) ∷ []) none in
+    subst (λ (l : List MetaCall). AreCalls l answers) are (asked_calls (hello_calls part store address labels) answers asked)
+
+free_state : (state : StoreState) (known : ℕ) → state ≢ states.Tombstone → hello_refusal (Some state) known ≡ None
+free_state states.Tombstone known other = absurd (other refl)
+free_state states.Up known other = refl
+free_state states.Offline known other = refl
+
+pub known_calls : (part : Part) (store moment : ℕ) (address : List ℕ) (labels : List Label) (known : StoreEntry) (answers : List MetaAnswer) → AreAsked (next_call (Some part) (ask.Hello store moment address labels)) [] answers
+    → entry_at store part.stores ≡ Some known → known.store.state ≢ states.Tombstone
+    → AreCalls (calls.Put part.term (store_key store) (revision_in (cell_at (store_key store) part.known)) (store_bytes (record { id = store; address = address; labels = labels; state = known.store.state })) ∷ []) answers
+known_calls part store moment address labels known answers asked there other =
+    let free : hello_refusal (state_at store part.stores) (length part.stores) ≡ None =
+    ap (λ (o : Option StoreEntry). hello_refusal (option_map (λ (e : StoreEntry). e.store.state) o) (length part.stores)) there ∙ free_state known.store.state (length part.stores) other in
+    let are : hello_calls part store address labels ≡ put_call part (store_key store) (store_bytes (kept_state (Some known.store) (greeting store address labels))) ∷ [] =
+    ap (λ (o : Option Reply). unless o (put_call part (store_key store) (store_bytes (greeted_record part store address labels)) ∷ [])) free
+    ∙ ap (λ (o : Option StoreEntry). put_call part (store_key store) (store_bytes (kept_state (option_map (λ (e : StoreEntry). e.store) o) (greeting store address labels))) ∷ []) there in
+    subst (λ (l : List MetaCall). AreCalls l answers) are (asked_calls (hello_calls part store address labels) answers asked)
+
+none_left : (answers : List MetaAnswer) → AreCalls [] answers → answers ≡ []
+none_left [] h = refl
+none_left (a ∷ answers) h = h
+
+pub refused_calls : (part : Part) (store moment : ℕ) (address : List ℕ) (labels : List Label) (reply : Reply) (answers : List MetaAnswer) → AreAsked (next_call (Some part) (ask.Hello store moment address labels)) [] answers
+    → hello_refusal (state_at store part.stores) (length part.stores) ≡ Some reply → answers ≡ []
+refused_calls part store moment address labels reply answers asked is =
+    none_left answers (asked_calls [] answers (subst (λ (o : Option Reply). AreAsked (in_turn (unless o (put_call part (store_key store) (store_bytes (greeted_record part store address labels)) ∷ []))) [] answers) is asked))
+
+pub alive_calls : (part : Option Part) (store moment : ℕ) (answers : List MetaAnswer) → AreAsked (next_call part (ask.Alive store moment)) [] answers → answers ≡ []
+alive_calls None store moment answers asked = no_calls answers asked
+alive_calls (Some part) store moment answers asked = no_calls answers asked
+
+pub retire_calls : (part : Option Part) (answers : List MetaAnswer) → AreAsked (next_call part ask.Retire) [] answers → answers ≡ []
+retire_calls None answers asked = no_calls answers asked
+retire_calls (Some part) answers asked = no_calls answers asked
+
+pub beat_calls : (part : Option Part) (store moment : ℕ) (beat : RegionBeat) (answers : List MetaAnswer) → AreAsked (next_call part (ask.Beat store moment beat)) [] answers → answers ≡ []
+beat_calls None store moment beat answers asked = no_calls answers asked
+beat_calls (Some part) store moment beat answers asked = no_calls answers asked

@@ -1,0 +1,39 @@
+-- What a refused call leaves, and what a store's hello writes.
+use Rattle.std.proofs.Common.{refl, ◌≡◌, ℕ, List, Option, Some, None, subst}
+use Rattle.std.specs.Option.{option_map}
+use Rattle.pd_types.specs.declared.store.StoreRec.{StoreRec}
+use Rattle.pd_types.specs.declared.store.StoreState.TheVariants.{Up}
+use Rattle.store_table.specs.declared.entry.StoreEntry.{StoreEntry}
+use Rattle.meta_store.specs.declared.record.MetaAnswer.{MetaAnswer}
+use Rattle.meta_store.specs.declared.record.MetaVerdict.{MetaVerdict}
+use Rattle.meta_store.specs.declared.record.MetaVerdict.TheVariants as verdicts
+use Rattle.pd_state.specs.declared.reply.Reply.{Reply}
+use Rattle.pd_state.specs.declared.reply.Reply.TheVariants as replies
+use Rattle.pd_state.specs.Replies.{verdict_refusal}
+use Rattle.pd_state.specs.State.{kept_state}
+use Rattle.pd_state.specs.Steps.{begun_part, greeted, put_after}
+
+pub no_term : (verdict : MetaVerdict) (reply : Reply) → verdict_refusal verdict ≡ Some reply → (term moment : ℕ) (answers : List MetaAnswer) → begun_part reply term moment answers ≡ None
+no_term (verdicts.Accepted revision) reply is term moment answers = absurd cc
+no_term (verdicts.OldTerm fence) reply is term moment answers = let e : replies.OldTerm fence ≡ reply = cc in subst (λ r. begun_part r term moment answers ≡ None) e refl
+no_term (verdicts.Conflict found) reply is term moment answers = let e : replies.Conflict found ≡ reply = cc in subst (λ r. begun_part r term moment answers ≡ None) e refl
+no_term verdicts.Limit reply is term moment answers = let e : replies.MetaLimit ≡ reply = cc in subst (λ r. begun_part r term moment answers ≡ None) e refl
+
+pub no_store : (verdict : MetaVerdict) (reply : Reply) → verdict_refusal verdict ≡ Some reply → (entry : StoreEntry) (entries : List StoreEntry) → put_after reply entry entries ≡ entries
+no_store (verdicts.Accepted revision) reply is entry entries = absurd cc
+no_store (verdicts.OldTerm fence) reply is entry entries = let e : replies.OldTerm fence ≡ reply = cc in subst (λ r. put_after r entry entries ≡ entries) e refl
+no_store (verdicts.Conflict found) reply is entry entries = let e : replies.Conflict found ≡ reply = cc in subst (λ r. put_after r entry entries ≡ entries) e refl
+no_store verdicts.Limit reply is entry entries = let e : replies.MetaLimit ≡ reply = cc in subst (λ r. put_after r entry entries ≡ entries) e refl
+
+-- the record that a hello writes
+pub kept_id : (o : Option StoreRec) (rec : StoreRec) → (kept_state o rec).id ≡ rec.id
+kept_id None rec = refl
+kept_id (Some known) rec = refl
+
+pub new_up : (o : Option StoreEntry) (rec : StoreRec) → rec.state ≡ Up → option_map (λ (entry : StoreEntry). entry.store.state) o ≡ None → (kept_state (option_map (λ (entry : StoreEntry). entry.store) o) rec).state ≡ Up
+new_up None rec up none = up
+new_up (Some known) rec up none = absurd cc
+
+pub kept_greeted : (o : Option StoreEntry) (rec : StoreRec) (began moment : ℕ) → greeted o (kept_state (option_map (λ (entry : StoreEntry). entry.store) o) rec) began moment ≡ greeted o rec began moment
+kept_greeted None rec began moment = refl
+kept_greeted (Some known) rec began moment = refl

@@ -1,0 +1,65 @@
+-- What comes first of each request's replies, by the state and by what the metadata answered.
+use Rattle.std.specs.Prelude.{ℕ, nat_le, if◌then◌else◌, List, [], ◌∷◌, length, Option, Some, None}
+use Rattle.pd_types.specs.declared.store.StoreState.{StoreState}
+use Rattle.pd_types.specs.declared.store.StoreState.TheVariants as states
+use Rattle.store_table.specs.declared.table.TheConstants.{MOST_STORES}
+use Rattle.heartbeat.specs.declared.intake.Intake.{Intake}
+use Rattle.heartbeat.specs.declared.intake.Intake.TheVariants as intakes
+use Rattle.meta_store.specs.declared.record.MetaAnswer.{MetaAnswer}
+use Rattle.meta_store.specs.declared.record.MetaVerdict.{MetaVerdict}
+use Rattle.meta_store.specs.declared.record.MetaVerdict.TheVariants as verdicts
+use Rattle.pd_state.specs.HandedOut.{or_default, rules_told, stores_told}
+use Rattle.pd_state.specs.Heard.{handed_out}
+use Rattle.pd_state.specs.declared.heard.Heard.{Heard}
+use Rattle.pd_state.specs.declared.reply.Reply.{Reply}
+use Rattle.pd_state.specs.declared.reply.Reply.TheVariants as replies
+
+-- the reply that a refused call gives
+abbrev pub verdict_refusal : MetaVerdict → Option Reply
+verdict_refusal (verdicts.Accepted revision) = None
+verdict_refusal (verdicts.OldTerm fence) = Some (replies.OldTerm fence)
+verdict_refusal (verdicts.Conflict found) = Some (replies.Conflict found)
+verdict_refusal verdicts.Limit = Some replies.MetaLimit
+
+-- a reply that comes before, else the other one
+abbrev pub or_then : Option Reply → Reply → Reply
+or_then (Some reply) done = reply
+or_then None done = done
+
+-- the reply that answers in a row give: that of the first call that was refused, else this one
+abbrev pub by_answers : Reply → List MetaAnswer → Reply
+by_answers done [] = done
+by_answers done (answer ∷ answers) = or_then (verdict_refusal answer.verdict) (by_answers done answers)
+
+-- what a Term is answered where its lead is accepted: how many stores and rules it begins with
+abbrev pub begun_reply : ℕ → Heard → Reply
+begun_reply term heard = replies.Term term (length (stores_told (handed_out heard.answers))) (length (or_default (rules_told (handed_out heard.answers))))
+
+-- a Term
+abbrev pub begin_reply : ℕ → Heard → Reply
+begin_reply term heard = by_answers (begun_reply term heard) heard.answers
+
+-- what refuses a hello before the metadata is asked, by the store's known state and the number of known stores
+abbrev pub hello_refusal : Option StoreState → ℕ → Option Reply
+hello_refusal (Some states.Tombstone) known = Some replies.Tombstone
+hello_refusal (Some states.Up) known = None
+hello_refusal (Some states.Offline) known = None
+hello_refusal None known = if nat_le MOST_STORES known then Some replies.Limit else None
+
+-- a hello
+abbrev pub hello_reply : Option StoreState → ℕ → Heard → Reply
+hello_reply state known heard = or_then (hello_refusal state known) (by_answers replies.StorePut heard.answers)
+
+-- a store heartbeat, by the store's known state
+abbrev pub alive_reply : Option StoreState → Reply
+alive_reply None = replies.UnknownStore
+alive_reply (Some states.Tombstone) = replies.Tombstone
+alive_reply (Some states.Up) = replies.Alive
+alive_reply (Some states.Offline) = replies.Alive
+
+-- a region heartbeat
+abbrev pub beat_reply : Intake → Reply
+beat_reply (intakes.Bad fault) = replies.Bad fault
+beat_reply (intakes.Stale kept) = replies.Stale kept
+beat_reply intakes.Full = replies.Full
+beat_reply (intakes.Accepted removed) = replies.Accepted (length removed)
