@@ -92,7 +92,7 @@ module _ (old new : ClusterValue) (journal now : List MetaEntry) (actor : Actor)
   its_answers : s.entry.answers ≡ answers_to (next_call (part_after (past_of old)) request) (reverse journal) old.driver
   its_answers =
       let given : s.entry.answers ≡ answers_given (reverse journal) old.driver s.entry.answers =
-          cancel (said_of (reverse journal)) s.entry.answers (answers_given (reverse journal) old.driver s.entry.answers) (sym s.said ∙ ap said_of its_calls ∙ said_more (reverse journal) old.driver s.entry.answers) in
+      cancel (said_of (reverse journal)) s.entry.answers (answers_given (reverse journal) old.driver s.entry.answers) (sym s.said ∙ ap said_of its_calls ∙ said_more (reverse journal) old.driver s.entry.answers) in
       let few = two_calls (part_after (past_of old)) s.entry.request s.entry.answers s.legal.asked in
       asked_answers 2 (next_call (part_after (past_of old)) s.entry.request) (reverse journal) old.driver [] s.entry.answers (next_call (part_after (past_of old)) s.entry.request []) refl few s.legal.asked given
       ∙ ap (λ (r : Request). answers_to (next_call (part_after (past_of old)) r) (reverse journal) old.driver) s.request_is
