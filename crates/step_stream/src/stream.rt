@@ -86,8 +86,7 @@ impl Stream {
         self.queue.push_as::<Pushing, R>(rt, &mut giver.pass, msg)
     }
 
-    /// Pops the oldest step that waits; none only where none waited at one moment of the call, and then
-    /// nothing was popped.
+    /// Pops the oldest step that waits. Where it answers none, as where none waits, nothing was popped.
     pub fn pop<R: Wait>(&self, rt: &R, taker: &mut Taker) -> Option<StepMsg>
         requires stream { taker.old.stream ≡ self.now }
         ensures some { IfSome result (λ msg. taker.new ≡ end_value self.now (taker.old.list ++ msg ∷ [])) }
