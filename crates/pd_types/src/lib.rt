@@ -7,6 +7,7 @@ mod laws;
 mod lists;
 mod memory;
 mod oracle;
+mod proposal;
 mod region;
 mod request;
 mod rule;
@@ -29,10 +30,11 @@ pub use oracle::{
     Actor, Batch, CellWord, Seen, Window, batches_apart_share_no_timestamp,
     batches_have_their_count,
 };
+pub use proposal::Proposal;
 pub use region::{DownPeer, Epoch, Peer, Region, RegionBeat, Role};
 pub use request::Request;
 pub use rule::{Constraint, Op, Rule, RuleRole};
 pub use stamp::{LOGICAL, pack, packs_and_unpacks, unpack};
-pub use step::Step;
+pub use step::{Step, StepMsg};
 pub use store::{Label, StoreRec, StoreState};
 pub use text::Text;

@@ -37,3 +37,22 @@ impl Duplicate for Step {
         Ok(*self)
     }
 }
+
+/// A step that a driver's cluster sent to the store of a region's leader: whose cluster and in which
+/// term, the place in the cluster's journal of the entry that sent it (from 1), the region, and that
+/// store.
+#[derive(Clone, Copy, Debug, PartialEq, Eq)]
+pub struct StepMsg {
+    pub driver: u8,
+    pub term: u64,
+    pub entry: u64,
+    pub region: u64,
+    pub to: u64,
+    pub step: Step,
+}
+
+impl Duplicate for StepMsg {
+    fn copy(&self, _alloc: Global) -> Result<StepMsg, NoMemory> {
+        Ok(*self)
+    }
+}

@@ -1,7 +1,7 @@
 use crate::{
     Actor, BeatFault, Bytes, Constraints, DownPeer, Downs, Duplicate, Epoch, Gate, Ids, Label,
-    Labels, OpenGate, Peer, Region, RegionBeat, Request, Role, Rule, RuleRole, Seq, Step, StoreRec,
-    StoreState, Text, Texts, check_beat, pack, unpack,
+    Labels, OpenGate, Peer, Proposal, Region, RegionBeat, Request, Role, Rule, RuleRole, Seq, Step,
+    StoreRec, StoreState, Text, Texts, check_beat, pack, unpack,
 };
 use std::alloc::{AllocError, Global};
 use std::process::Abort;
@@ -189,6 +189,22 @@ fn a_step_is_printed(rt: HostRuntime) -> Result<(), Fail> {
     let step = Step::PromoteLearner { peer: 14, store: 4 };
     let printed = format!(in rt.alloc(); "{step}")?;
     assert_eq!(rt; printed.as_str(), "promote-learner peer 14 store 4");
+    Ok(())
+}
+
+#[test]
+fn a_proposal_is_printed(rt: HostRuntime) -> Result<(), Fail> {
+    let moved = Proposal::MovePeer {
+        region: 2,
+        from: 1,
+        to: 2,
+    };
+    let led = Proposal::MoveLeader { region: 1, to: 3 };
+    let printed = format!(in rt.alloc(); "{moved}, {led}")?;
+    assert_eq!(rt;
+        printed.as_str(),
+        "move-peer region 2 from 1 to 2, move-leader region 1 store 3"
+    );
     Ok(())
 }
 
