@@ -1,7 +1,8 @@
 ghost use Rattle.std.specs.Prelude.{◌≡◌, IfOk};
+ghost use Rattle.tso_board.specs.Crews.{IsWhole};
 ghost use Rattle.tso_board.specs.Seats.{IsSeatOf, seat_view};
 
-use crate::{Board, Crew, DriverSeat, gather, open};
+use crate::{Board, Crew, DriverSeat, Ledger, gather, open};
 use pd_types::{CellWord, Window};
 use std::alloc::Global;
 use std::process::Abort;
@@ -92,25 +93,23 @@ fn gathers_the_opening_window(rt: HostRuntime) -> Result<(), Fail> {
     Ok(())
 }
 
-// What wants memory, twice. With `rt try --test --fail-alloc N` the Nth allocation of each test fails;
-// what was refused then leaves the crew whole, so that it comes the second time.
+// A ledger, asked for once more where memory was wanting: the crew comes back whole.
+fn gathered(crew: Crew) -> Option<Ledger>
+    requires whole { IsWhole crew }
+{
+    match gather(crew) {
+        Ok(ledger) => Some(ledger),
+        Err(back) => gather(back).ok(),
+    }
+}
+
+// With `rt try --test --fail-alloc N` the Nth allocation of each test fails, and where it is one of
+// `gather` the second call comes.
 #[test]
 fn want_of_memory_leaves_the_crew_whole(rt: HostRuntime) -> Result<(), Fail> {
-    let alloc = rt.alloc();
-    let mut opened = open(alloc, 2, 3, OPENING);
-    if opened.is_err() {
-        opened = open(alloc, 2, 3, OPENING);
-    }
-    let crew = opened?;
-    let ledger = match gather(crew) {
-        Ok(ledger) => ledger,
-        Err(crew) => {
-            assert!(rt; crew.seats.len() == 2 && crew.passes.len() == 3);
-            let Ok(ledger) = gather(crew) else {
-                return Err(Fail::new("no ledger"));
-            };
-            ledger
-        }
+    let crew = open(rt.alloc(), 2, 3, OPENING)?;
+    let Some(ledger) = gathered(crew) else {
+        return Err(Fail::new("no ledger"));
     };
     assert!(rt; ledger.windows().as_slice().len() == 1);
     Ok(())
