@@ -1,4 +1,4 @@
-use crate::{Duplicate, Labels, NoMemory, RegionBeat, Text};
+use crate::{Bytes, Duplicate, Labels, NoMemory, RegionBeat, Text};
 use std::alloc::Global;
 
 /// What a driver's cluster is asked to do. Moments are in milliseconds since the epoch.
@@ -21,6 +21,17 @@ pub enum Request {
         store: u64,
         moment: u64,
         beat: RegionBeat,
+    },
+    /// Sets a placement rule, by its JSON text (pd-ctl `config placement-rules`).
+    Rule {
+        moment: u64,
+        json: Bytes,
+    },
+    /// Removes the placement rule of this group and id (pd-ctl `config placement-rules`).
+    Unrule {
+        moment: u64,
+        group: Text,
+        id: Text,
     },
     /// The driver won this term.
     Term {
@@ -57,6 +68,15 @@ impl Duplicate for Request {
                 store: *store,
                 moment: *moment,
                 beat: beat.copy(alloc)?,
+            }),
+            Request::Rule { moment, json } => Ok(Request::Rule {
+                moment: *moment,
+                json: json.copy(alloc)?,
+            }),
+            Request::Unrule { moment, group, id } => Ok(Request::Unrule {
+                moment: *moment,
+                group: group.copy(alloc)?,
+                id: id.copy(alloc)?,
             }),
             Request::Term { term, moment } => Ok(Request::Term {
                 term: *term,
