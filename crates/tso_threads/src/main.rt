@@ -3,6 +3,8 @@
 
 mod adding;
 mod crew;
+#[cfg(test)]
+mod draw_tests;
 mod leading;
 mod taking;
 #[cfg(test)]

@@ -1,6 +1,7 @@
 // Clients that draw at once, from a driver that ticks meanwhile, and drivers that campaign at once.
 use crate::crew::{Worker, run_all, start};
 use crate::leading::contend;
+use crate::turning::turns;
 use pd_types::{Batch, Window};
 use std::process::Abort;
 use std::sync::Wait;
@@ -94,5 +95,12 @@ fn drivers_that_contend_win_windows_apart(rt: HostRuntime) -> Result<(), Fail> {
     }
     all.sort_by_key(|window| window.term)?;
     assert!(rt; contenders.len() == 2 && !all.is_empty() && follow(&all));
+    Ok(())
+}
+
+// Each taking adds one to the turn's count, and none is lost.
+#[test]
+fn four_threads_take_a_turn_80_000_times(rt: HostRuntime) -> Result<(), Fail> {
+    assert_eq!(rt; turns(&rt, rt.alloc(), 4, 20_000)?, 80_000);
     Ok(())
 }
