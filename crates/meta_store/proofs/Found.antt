@@ -1,6 +1,6 @@
 -- The record of a key after a record is placed or taken out.
-use Rattle.std.proofs.Common.{refl, ◌≡◌, ◌≢◌, ℕ, Bool, true, false, not, cond, List, [], ◌∷◌, ap, sym, ◌∙◌, subst, Option, Some, None, ◌⊎◌, inl, inr}
-use Rattle.std.proofs.lemmas.Bool.{cases_Bool, true≢false}
+use Rattle.std.proofs.Common.{refl, ◌≡◌, ℕ, Bool, true, false, not, cond, List, [], ◌∷◌, ap, sym, ◌∙◌, subst, Option, Some, None}
+use Rattle.std.proofs.lemmas.Bool.{true≢false}
 use Rattle.std.proofs.lemmas.List.Folds.{find-append}
 use Rattle.std.specs.List.{filter, find}
 use Rattle.std.specs.Option.{option_or}

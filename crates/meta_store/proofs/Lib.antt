@@ -8,3 +8,4 @@ pub mod Stored
 pub mod Verdicts
 pub mod Prefixes
 pub mod Kept
+mod Seating

@@ -1,7 +1,6 @@
 -- Keys that begin with a prefix.
-use Rattle.std.proofs.Common.{refl, ◌≡◌, ℕ, Bool, true, List, [], ◌∷◌, ◌++◌, length, take, drop, nat_eq, ap, sym, ◌∙◌, subst}
+use Rattle.std.proofs.Common.{refl, ◌≡◌, ℕ, true, List, [], ◌∷◌, ◌++◌, length, take, drop, ap, sym, ◌∙◌}
 use Rattle.std.proofs.lemmas.List.{take-append-drop}
-use Rattle.std.proofs.lemmas.Slice.Eq.{bytes_eq-Decides}
 use Rattle.meta_store.specs.Cells.{begins_with}
 use Rattle.meta_store.proofs.Keys.{equal_keys, same_keys}
 

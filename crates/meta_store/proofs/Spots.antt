@@ -1,5 +1,5 @@
 -- What stands in a rising list at the place of a key.
-use Rattle.std.proofs.Common.{◌≡◌, ◌≢◌, ℕ, zero, suc, ◌+◌, ◌<◌, ◌≤◌, Bool, true, false, not, List, [], ◌∷◌, ◌++◌, length, get_or, take, drop, set, refl, ap, sym, ◌∙◌, arith, ◌⊎◌, inl, inr, subst, add-one, Option, Some, None}
+use Rattle.std.proofs.Common.{◌≡◌, ◌≢◌, ℕ, zero, suc, ◌+◌, ◌<◌, ◌≤◌, Bool, true, false, not, List, [], ◌∷◌, ◌++◌, length, get_or, take, drop, set, refl, ap, sym, ◌∙◌, arith, ◌⊎◌, inl, inr, subst, add-one, Some, None}
 use Rattle.std.proofs.lemmas.Grind.{common_steps}
 use Rattle.std.proofs.lemmas.Bool.{cases_lt, cases_eq}
 use Rattle.std.specs.List.{filter, find, insert}
@@ -8,7 +8,7 @@ use Rattle.pd_types.specs.BeatCheck.{is_below}
 use Rattle.meta_store.specs.declared.record.Cell.{Cell}
 use Rattle.meta_store.specs.Cells.{AreRising, cell_at, placed, without}
 use Rattle.meta_store.specs.Places.{Parts, Stands}
-use Rattle.meta_store.proofs.Keys.{above, above_other, below_other, below_trans, below_upto, equal_keys, not_below_itself, same_keys}
+use Rattle.meta_store.proofs.Keys.{above, above_other, below_other, below_trans, below_upto, equal_keys, not_below_itself}
 
 -- a test that all before the place pass, and none from there on
 filter_front : {X : Type 0} (p : X → Bool) (xs : List X) (i : ℕ) → ((k : ℕ) (d : X) → k < i → k < length xs → p (get_or xs k d) ≡ true) → ((k : ℕ) (d : X) → i ≤ k → k < length xs → p (get_or xs k d) ≡ false) → filter p xs ≡ take i xs

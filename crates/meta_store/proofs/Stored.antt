@@ -1,19 +1,17 @@
 -- Stores are read as they are written.
-use Rattle.std.proofs.Common.{refl, ◌≡◌, ◌≢◌, ℕ, zero, suc, ◌+◌, ◌-◌, ◌<◌, ◌≤◌, ◌^◌, Bool, true, false, cond, not, ◌&&◌, nat_eq, nat_lt, List, [], ◌∷◌, ◌++◌, length, map, take, drop, get_or, replicate, All, Option, Some, None, ap, sym, ◌∙◌, subst, append_assoc, append-nil, arith}
+use Rattle.std.proofs.Common.{refl, ◌≡◌, ℕ, zero, suc, ◌+◌, ◌-◌, ◌<◌, ◌≤◌, ◌^◌, Bool, true, false, cond, not, ◌&&◌, nat_eq, nat_lt, List, [], ◌∷◌, ◌++◌, length, map, take, drop, get_or, replicate, All, Option, Some, None, ap, sym, ◌∙◌, subst, append_assoc, append-nil, arith}
 use Rattle.std.specs.Prelude.{codes}
-use Rattle.std.specs.Char.{digit_value}
 use Rattle.std.specs.Fmt.{char_count, decimal, format_spec, padded_integral}
 use Rattle.std.specs.List.{join_with_byte, list_any, slice_split}
-use Rattle.std.specs.Option.{option_and_then, option_map}
+use Rattle.std.specs.Option.{option_map}
 use Rattle.std.specs.Str.{bytes_eq}
 use Rattle.std.specs.Str.Parse.{AllDigits, digits_value}
 use Rattle.std.proofs.lemmas.Bool.Decides.{nat_tests}
 use Rattle.std.proofs.lemmas.Fmt.{decimal_is_IsNumeral}
 use Rattle.std.proofs.lemmas.List.{length-drop, length-take, take_all, take_more}
-use Rattle.std.proofs.lemmas.List.Elements.{All-append, All-cons, All-nil}
+use Rattle.std.proofs.lemmas.List.Elements.{All-cons, All-nil}
 use Rattle.std.proofs.lemmas.List.Folds.{list_any_at}
 use Rattle.std.proofs.lemmas.List.Splits.{join_with_byte-slice_split, length-slice_split}
-use Rattle.std.proofs.lemmas.Slice.Eq.{bytes_eq-Decides}
 use Rattle.pd_types.specs.declared.store.Label.{Label}
 use Rattle.pd_types.specs.declared.store.StoreRec.{StoreRec}
 use Rattle.pd_types.specs.declared.store.StoreState.{StoreState}

@@ -1,9 +1,8 @@
 -- What becomes of a call, by the entries before it, and what drivers hear of it.
-use Rattle.std.proofs.Common.{refl, ◌≡◌, ◌≢◌, ℕ, ◌+◌, ◌<◌, ◌≤◌, Bool, true, false, ◌&&◌, cond, nat_eq, nat_le, nat_lt, List, [], ◌∷◌, ◌++◌, length, reverse, Option, Some, None, ap, sym, ◌∙◌, subst, arith}
+use Rattle.std.proofs.Common.{refl, ◌≡◌, ◌≢◌, ℕ, ◌+◌, ◌<◌, ◌≤◌, Bool, true, false, ◌&&◌, cond, nat_le, nat_lt, List, [], ◌∷◌, ◌++◌, length, Some, None, ap, sym, ◌∙◌, arith}
 use Rattle.std.proofs.lemmas.Bool.{lt-ltb, le-ltb, eq-eqb, ne_eqb}
 use Rattle.std.proofs.lemmas.Bool.Decides.{nat_tests}
 use Rattle.std.proofs.lemmas.List.Sums.{sum_by-cons}
-use Rattle.std.specs.List.{count_by}
 use Rattle.meta_store.specs.declared.fault.MetaFault.TheVariants as faults
 use Rattle.meta_store.specs.declared.record.Cell.{Cell}
 use Rattle.meta_store.specs.declared.record.MetaCall.{MetaCall}
@@ -11,9 +10,8 @@ use Rattle.meta_store.specs.declared.record.MetaCall.TheVariants as calls
 use Rattle.meta_store.specs.declared.record.MetaEntry.{MetaEntry}
 use Rattle.meta_store.specs.declared.record.MetaVerdict.{MetaVerdict}
 use Rattle.meta_store.specs.declared.record.MetaVerdict.TheVariants as verdicts
-use Rattle.meta_store.specs.Cells.{revision_in}
 use Rattle.meta_store.specs.Doors.{answer_of, said_of}
-use Rattle.meta_store.specs.Past.{IsExpected, Refused, announced, counter_of, entry_of, fence_of, is_accepted, is_full, is_write, lead_verdict, noted, record_of, records_of, revision_of, term_of, verdict_of, write_verdict}
+use Rattle.meta_store.specs.Past.{IsExpected, Refused, announced, counter_of, entry_of, fence_of, is_accepted, is_full, is_write, record_of, records_of, revision_of, term_of, verdict_of, write_verdict}
 use Rattle.meta_store.proofs.Refines.{counted, not_zero}
 
 -- accepted calls

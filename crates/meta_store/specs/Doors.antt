@@ -1,6 +1,7 @@
 -- What a door says of its calls, and what a journal makes of them.
 use Rattle.std.specs.Prelude.{◌≡◌, ◌⊎◌, ℕ, List, [], ◌∷◌, ◌++◌, Option, Some, None}
 use Rattle.std.specs.Option.{option_map}
+use Rattle.pd_turn.specs.Turns.{TurnValue}
 use Rattle.meta_store.specs.declared.record.Cell.{Cell}
 use Rattle.meta_store.specs.declared.record.MetaAnswer.{MetaAnswer}
 use Rattle.meta_store.specs.declared.record.MetaCall.{MetaCall}
@@ -12,14 +13,15 @@ use Rattle.meta_store.specs.declared.fault.MetaFault.{MetaFault}
 use Rattle.meta_store.specs.declared.fault.MetaFault.TheVariants as faults
 use Rattle.meta_store.specs.Past.{noted, records_of}
 
--- what no call of a door changes: the one driver that it serves, or none where it serves all; and the name of what it was lent, or 0
+-- what no call of a door changes: the one driver that it serves, or none where it serves all; the turn of the metadata that it goes through, or none; and the name of what it was lent, or 0
 pub record Place : Type 0 where
   pub driver : Option ℕ
+  pub turn : Option TurnValue
   pub lent : ℕ
 
 -- a place, by its parts
-abbrev pub place_of : Option ℕ → ℕ → Place
-place_of driver lent = record { driver = driver; lent = lent }
+abbrev pub place_of : Option ℕ → Option TurnValue → ℕ → Place
+place_of driver turn lent = record { driver = driver; turn = turn; lent = lent }
 
 -- the door serves the driver
 abbrev pub Serves : Place → ℕ → Type 0

@@ -1,5 +1,5 @@
 -- What a driver knows of the revisions of keys, by the answers that it heard in its term. Each list of answers has the latest first.
-use Rattle.std.specs.Prelude.{◌≡◌, ℕ, List, [], ◌∷◌, map, Bool, if◌then◌else◌}
+use Rattle.std.specs.Prelude.{ℕ, List, [], ◌∷◌, map, if◌then◌else◌}
 use Rattle.std.specs.Str.{bytes_eq}
 use Rattle.meta_store.specs.declared.record.Cell.{Cell}
 use Rattle.meta_store.specs.declared.record.MetaAnswer.{MetaAnswer}

@@ -6,3 +6,4 @@ pub mod Steps
 pub mod Stores
 pub mod Asked
 pub mod Known
+pub mod Seats

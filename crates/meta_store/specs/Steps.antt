@@ -1,6 +1,5 @@
 -- What one call makes of the tables. Private contracts alone cite this.
 use Rattle.std.specs.Prelude.{ℕ, false, List, length}
-use Rattle.meta_store.specs.declared.record.Cell.{Cell}
 use Rattle.meta_store.specs.declared.record.MetaCall.{MetaCall}
 use Rattle.meta_store.specs.declared.record.MetaCall.TheVariants as calls
 use Rattle.meta_store.specs.declared.record.MetaVerdict.{MetaVerdict}

@@ -1,5 +1,5 @@
 -- The record of a store, as the metadata keeps it (metapb `Store`, kept by PD under the store's id; the spelling is our own choice): the key `store/` with the id in 20 digits, and the bytes `STATE ADDRESS LABELS`.
-use Rattle.std.specs.Prelude.{◌≡◌, ℕ, ◌<◌, ◌-◌, ◌^◌, nat_eq, nat_lt, List, [], ◌∷◌, ◌++◌, codes, drop, length, replicate, Bool, true, ◌&&◌, Option, Some, None, if◌then◌else◌}
+use Rattle.std.specs.Prelude.{◌≡◌, ℕ, ◌<◌, ◌-◌, ◌^◌, nat_eq, nat_lt, List, [], ◌∷◌, ◌++◌, codes, drop, length, replicate, true, ◌&&◌, Option, Some, None, if◌then◌else◌}
 use Rattle.std.specs.Fmt.{decimal}
 use Rattle.std.specs.List.{slice_split}
 use Rattle.std.specs.Option.{option_and_then, option_map}

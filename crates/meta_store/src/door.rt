@@ -81,7 +81,7 @@ impl Door for Meta {
 
     ghost told = { λ m. Some m };
 
-    ghost place = { λ _. place_of None 0 };
+    ghost place = { λ _. place_of None None 0 };
 
     fn lead(&mut self, driver: u8, term: u64) -> Result<Cells, MetaFault> {
         Meta::lead(self, driver, term)

@@ -1,5 +1,5 @@
 // What the definitions come to.
-ghost use Rattle.std.specs.Prelude.{◌≡◌, ◌≢◌, ◌+◌, ◌<◌, ◌≤◌, ℕ, Bool, true, false, List, [], ◌∷◌, ◌++◌, drop, length, Some, None, All};
+ghost use Rattle.std.specs.Prelude.{◌≡◌, ◌≢◌, ◌+◌, ◌<◌, ◌≤◌, ℕ, Bool, true, false, List, [], ◌∷◌, ◌++◌, drop, length, map, Some, None, All};
 ghost use Rattle.meta_store.specs.declared.fault.MetaFault.TheVariants as faults;
 ghost use Rattle.meta_store.specs.declared.record.Cell.{Cell};
 ghost use Rattle.meta_store.specs.declared.record.MetaCall.{MetaCall};
@@ -9,6 +9,7 @@ ghost use Rattle.meta_store.specs.declared.record.MetaVerdict.{MetaVerdict};
 ghost use Rattle.meta_store.specs.declared.record.MetaVerdict.TheVariants as verdicts;
 ghost use Rattle.meta_store.specs.Cells.{begins_with};
 ghost use Rattle.meta_store.specs.Doors.{answer_of, said_of};
+ghost use Rattle.meta_store.specs.Seats.{heard_by, heard_of, tale_of};
 ghost use Rattle.meta_store.specs.Past.{AreRecords, IsExpected, Refused, announced, counter_of, entry_of, fence_of, is_accepted, is_full, is_of, is_write, lead_verdict, record_of, records_of, revision_of, term_of, verdict_of, write_verdict};
 
 /// A key without a record is one too many where 65,536 have one; from 262,144 entries on no call is
@@ -151,4 +152,15 @@ pub fn the_fence_is_the_greatest_accepted_term()
     ensures own { (past : List MetaEntry) (entry : MetaEntry) → is_accepted entry.verdict ≡ true → announced entry.call ≤ fence_of (entry ∷ past) }
     ensures writes { (past : List MetaEntry) (entry : MetaEntry) → is_write entry.call ≡ true → fence_of (entry ∷ past) ≡ fence_of past }
     ensures refused { (past : List MetaEntry) (entry : MetaEntry) → is_accepted entry.verdict ≡ false → fence_of (entry ∷ past) ≡ fence_of past }
+{}
+
+/// What the drivers heard of a journal, one after another, is what was said; a driver hears its own calls,
+/// each with its answer, in their order, and of no other driver's.
+pub fn a_driver_hears_of_its_own_calls()
+    ensures all { (past : List MetaEntry) → map (λ heard. heard.1) (tale_of past) ≡ said_of past }
+    ensures nothing { (driver : ℕ) → heard_by driver [] ≡ [] }
+    ensures own { (past : List MetaEntry) (entry : MetaEntry) →
+        heard_by entry.driver (entry ∷ past) ≡ heard_by entry.driver past ++ heard_of past entry ∷ [] }
+    ensures other { (past : List MetaEntry) (entry : MetaEntry) (driver : ℕ) → entry.driver ≢ driver →
+        heard_by driver (entry ∷ past) ≡ heard_by driver past }
 {}

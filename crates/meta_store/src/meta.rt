@@ -7,8 +7,8 @@ ghost use Rattle.meta_store.specs.Steps.{verdict_by};
 
 use crate::records::Records;
 use crate::tables::{Tables, apply, judge};
-use crate::{Cell, Cells, MetaCall, MetaEntry, MetaFault, MetaVerdict};
-use pd_types::{Bytes, Duplicate, NoMemory};
+use crate::{Cell, Cells, MetaCall, MetaEntry, MetaFault, MetaJournal, MetaVerdict};
+use pd_types::{Bytes, Duplicate, NoMemory, Seq};
 use std::alloc::Global;
 use std::marker::Model;
 
@@ -215,5 +215,13 @@ impl Meta {
         ensures legal { IsLegal (reverse self.now) }
     {
         &self.entries
+    }
+
+    /// The same by value.
+    pub(crate) fn into_journal(self) -> MetaJournal
+        ensures value { result ≡ self }
+        ensures legal { IsLegal (reverse self) }
+    {
+        Seq::of(self.entries)
     }
 }

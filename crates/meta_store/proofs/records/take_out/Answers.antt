@@ -1,6 +1,4 @@
-use Rattle.std.proofs.Common.{◌∙◌, sym, refl, subst}
-use Rattle.meta_store.specs.Cells.{AreRising}
-use Rattle.meta_store.proofs.Order.{rising_without}
+use Rattle.std.proofs.Common.{◌∙◌, sym, refl}
 use Rattle.meta_store.proofs.Spots.{without_known, without_absent, known_at, absent_at}
 use Rattle.meta_store.proofs.records.take_out.Goals as goal
 

@@ -1,6 +1,5 @@
 use Rattle.std.proofs.Common.{◌∙◌, sym, ap, arith}
 use Rattle.std.specs.Str.Parse.{digits_value}
-use Rattle.std.proofs.lemmas.Bool.Decides.{nat_tests}
 use Rattle.meta_store.proofs.Stored.{behind, no_id, not_true, not_false, other_id, same_id}
 use Rattle.meta_store.proofs.store.id_of.Goals as goal
 

@@ -1,5 +1,3 @@
-use Rattle.std.proofs.Common.{reverse}
-use Rattle.meta_store.specs.Past.{AreRecordsUnder}
 use Rattle.meta_store.proofs.Refines.{all_under}
 use Rattle.meta_store.proofs.meta.Meta.list.Goals as goal
 
