@@ -1,6 +1,8 @@
 -- Which calls were made, by what was asked.
-use Rattle.std.proofs.Common.{refl, ◌≡◌, ◌≢◌, ℕ, ◌≤◌, ◌<◌, Bool, true, false, cond, nat_le, List, [], ◌∷◌, ◌++◌, length, ap, sym, subst, ◌∙◌, Option, Some, None, arith}
+use Rattle.std.proofs.Common.{refl, ◌≡◌, ◌≢◌, ℕ, ◌+◌, ◌≤◌, ◌<◌, Bool, true, false, cond, nat_le, List, [], ◌∷◌, ◌++◌, length, ap, sym, subst, ◌∙◌, Option, Some, None, arith}
+use Rattle.std.specs.List.{cons_option}
 use Rattle.std.specs.Option.{option_map}
+use Rattle.std.specs.Prelude.{Result, Ok, Err}
 use Rattle.pd_types.specs.declared.region.RegionBeat.{RegionBeat}
 use Rattle.pd_types.specs.declared.request.Request.{Request}
 use Rattle.pd_types.specs.declared.request.Request.TheVariants as ask
@@ -21,7 +23,12 @@ use Rattle.pd_state.specs.declared.part.Part.{Part}
 use Rattle.pd_state.specs.declared.reply.Reply.{Reply}
 use Rattle.pd_state.specs.declared.reply.Reply.TheVariants as replies
 use Rattle.pd_state.specs.Calls.{AreCalls, AreLeft, greeted_record, hello_calls, in_turn, next_call, put_call, unless}
-use Rattle.pd_state.specs.Replies.{hello_refusal}
+use Rattle.pd_types.specs.declared.rule.Rule.{Rule}
+use Rattle.rule_set.specs.Changes.{remove_refusal}
+use Rattle.rule_text.specs.declared.fault.RuleFault.{RuleFault}
+use Rattle.pd_state.specs.Calls.{default_put, rule_calls, rule_delete, rule_put, told_calls, unrule_calls}
+use Rattle.pd_state.specs.Replies.{hello_refusal, removal_refused, rule_refusal}
+use Rattle.pd_state.specs.StoredRules.{rule_told}
 use Rattle.pd_state.specs.State.{greeting, kept_state}
 
 -- behind an answer, the calls that are left
@@ -66,6 +73,31 @@ unless_few : (o : Option Reply) (call : MetaCall) → length (unless o (call ∷
 unless_few None call = omega arith
 unless_few (Some reply) call = omega arith
 
+-- setting a rule makes two calls at most, and removing one makes one
+unless_less : (o : Option Reply) (calls : List MetaCall) → length (unless o calls) ≤ length calls
+unless_less None calls = omega arith
+unless_less (Some reply) calls = omega arith
+
+one_more : (o : Option MetaCall) (calls : List MetaCall) → length (cons_option o calls) ≤ length calls + 1
+one_more None calls = omega arith
+one_more (Some call) calls = omega arith
+
+told_few : (part : Part) (told : Result Rule RuleFault) → length (told_calls part told) ≤ 2
+told_few part (Err fault) = omega arith
+told_few part (Ok rule) = omega (arith, one_more (default_put part rule) (rule_put part rule ∷ []))
+
+rule_few : (part : Part) (told : Result Rule RuleFault) → length (rule_calls part told) ≤ 2
+rule_few part told =
+    let less = unless_less (rule_refusal told part.rules) (told_calls part told) in
+    let two = told_few part told in
+    omega (arith, less, two)
+
+unrule_few : (part : Part) (group id : List ℕ) → length (unrule_calls part group id) ≤ 1
+unrule_few part group id =
+    let less = unless_less (removal_refused (remove_refusal group id part.rules)) (cons_option (rule_delete part group id) []) in
+    let one = one_more (rule_delete part group id) [] in
+    omega (arith, less, one)
+
 -- a request makes two calls at most
 pub two_calls : (part : Option Part) (request : Request) (answers : List MetaAnswer) → AreAsked (next_call part request) [] answers → length answers ≤ 2
 two_calls part (ask.Term term moment) answers asked = omega (arith, few_calls (calls.Lead term ∷ []) answers (asked_calls (calls.Lead term ∷ []) answers asked))
@@ -78,6 +110,16 @@ two_calls None (ask.Alive store moment) answers asked = omega (arith, ap length 
 two_calls (Some part) (ask.Alive store moment) answers asked = omega (arith, ap length (no_calls answers asked))
 two_calls None (ask.Beat store moment beat) answers asked = omega (arith, ap length (no_calls answers asked))
 two_calls (Some part) (ask.Beat store moment beat) answers asked = omega (arith, ap length (no_calls answers asked))
+two_calls None (ask.Rule moment json) answers asked = omega (arith, ap length (no_calls answers asked))
+two_calls None (ask.Unrule moment group id) answers asked = omega (arith, ap length (no_calls answers asked))
+two_calls (Some part) (ask.Rule moment json) answers asked =
+    let few = few_calls (rule_calls part (rule_told json)) answers (asked_calls (rule_calls part (rule_told json)) answers asked) in
+    let two = rule_few part (rule_told json) in
+    omega (arith, few, two)
+two_calls (Some part) (ask.Unrule moment group id) answers asked =
+    let few = few_calls (unrule_calls part group id) answers (asked_calls (unrule_calls part group id) answers asked) in
+    let one = unrule_few part group id in
+    omega (arith, few, one)
 two_calls None ask.Retire answers asked = omega (arith, ap length (no_calls answers asked))
 two_calls (Some part) ask.Retire answers asked = omega (arith, ap length (no_calls answers asked))
 
@@ -117,7 +159,7 @@ known_calls part store moment address labels known answers asked there other =
     ∙ ap (λ (o : Option StoreEntry). put_call part (store_key store) (store_bytes (kept_state (option_map (λ (e : StoreEntry). e.store) o) (greeting store address labels))) ∷ []) there in
     subst (λ (l : List MetaCall). AreCalls l answers) are (asked_calls (hello_calls part store address labels) answers asked)
 
-none_left : (answers : List MetaAnswer) → AreCalls [] answers → answers ≡ []
+pub none_left : (answers : List MetaAnswer) → AreCalls [] answers → answers ≡ []
 none_left [] h = refl
 none_left (a ∷ answers) h = h
 

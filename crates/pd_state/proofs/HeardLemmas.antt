@@ -17,6 +17,12 @@ heard_other store at moment before other = rw (ne_eqb store at (λ same. other (
 
 pub alive_refused : (reply : Reply) (store at moment : ℕ) (before : Option ℕ) → reply ≢ replies.Alive → alive_by reply store at moment before ≡ before
 alive_refused replies.Alive store at moment before other = absurd (other refl)
+alive_refused (replies.BadRule fault) store at moment before other = refl
+alive_refused replies.RuleLimit store at moment before other = refl
+alive_refused replies.RulePut store at moment before other = refl
+alive_refused replies.Absent store at moment before other = refl
+alive_refused replies.LastRule store at moment before other = refl
+alive_refused replies.RuleRemoved store at moment before other = refl
 alive_refused (replies.OldTerm fence) store at moment before other = refl
 alive_refused (replies.Conflict found) store at moment before other = refl
 alive_refused replies.MetaLimit store at moment before other = refl
@@ -34,6 +40,12 @@ alive_refused replies.NotLeading store at moment before other = refl
 
 pub hello_refused : (reply : Reply) (store at moment : ℕ) (before : Option ℕ) → reply ≢ replies.StorePut → hello_by reply store at moment before ≡ before
 hello_refused replies.StorePut store at moment before other = absurd (other refl)
+hello_refused (replies.BadRule fault) store at moment before other = refl
+hello_refused replies.RuleLimit store at moment before other = refl
+hello_refused replies.RulePut store at moment before other = refl
+hello_refused replies.Absent store at moment before other = refl
+hello_refused replies.LastRule store at moment before other = refl
+hello_refused replies.RuleRemoved store at moment before other = refl
 hello_refused (replies.OldTerm fence) store at moment before other = refl
 hello_refused (replies.Conflict found) store at moment before other = refl
 hello_refused replies.MetaLimit store at moment before other = refl

@@ -88,9 +88,13 @@ part_one e ask.Retire s entries is rest h = absurd cc
 part_one e (ask.Hello store moment address labels) None entries is rest h = absurd cc
 part_one e (ask.Alive store moment) None entries is rest h = absurd cc
 part_one e (ask.Beat store moment beat) None entries is rest h = absurd cc
+part_one e (ask.Rule moment json) None entries is rest h = absurd cc
+part_one e (ask.Unrule moment group id) None entries is rest h = absurd cc
 part_one e (ask.Hello store moment address labels) (Some fs) entries is rest h = subst TermPart (cons_same e fs entries h) (subst (λ (r : Request). part_by r fs (TermPart fs)) (sym is) (rest fs refl))
 part_one e (ask.Alive store moment) (Some fs) entries is rest h = subst TermPart (cons_same e fs entries h) (subst (λ (r : Request). part_by r fs (TermPart fs)) (sym is) (rest fs refl))
 part_one e (ask.Beat store moment beat) (Some fs) entries is rest h = subst TermPart (cons_same e fs entries h) (subst (λ (r : Request). part_by r fs (TermPart fs)) (sym is) (rest fs refl))
+part_one e (ask.Rule moment json) (Some fs) entries is rest h = subst TermPart (cons_same e fs entries h) (subst (λ (r : Request). part_by r fs (TermPart fs)) (sym is) (rest fs refl))
+part_one e (ask.Unrule moment group id) (Some fs) entries is rest h = subst TermPart (cons_same e fs entries h) (subst (λ (r : Request). part_by r fs (TermPart fs)) (sym is) (rest fs refl))
 
 pub term_part : (past entries : List Entry) → since past ≡ Some entries → TermPart entries
 term_part [] entries h = absurd cc
@@ -122,6 +126,8 @@ known_one (ask.Hello at moment address labels) e entries store part rest =
 known_one ask.Retire e entries store part rest = rest part
 known_one (ask.Alive at moment) e entries store part rest = rest part
 known_one (ask.Beat at moment beat) e entries store part rest = rest part
+known_one (ask.Rule moment json) e entries store part rest = rest part
+known_one (ask.Unrule moment group id) e entries store part rest = rest part
 
 known_all : (entries : List Entry) → TermPart entries → (store : ℕ) → is_some (record_at store (records_of entries)) ≡ list_any (is_hello store) entries || is_some (record_at store (stores_told (handed_to entries)))
 known_all [] part store = absurd part
@@ -207,6 +213,10 @@ told_one (ask.Alive at moment) e entries asked part rest store rec found =
     told_before e entries store rec (ap (λ (r : Request). greets store r e.reply) asked) (ap (λ (r : Request). begun_with r (handed_out e.answers) (handed_to entries)) asked) (rest part store rec found)
 told_one (ask.Beat at moment beat) e entries asked part rest store rec found =
     told_before e entries store rec (ap (λ (r : Request). greets store r e.reply) asked) (ap (λ (r : Request). begun_with r (handed_out e.answers) (handed_to entries)) asked) (rest part store rec found)
+told_one (ask.Rule moment json) e entries asked part rest store rec found =
+    told_before e entries store rec (ap (λ (r : Request). greets store r e.reply) asked) (ap (λ (r : Request). begun_with r (handed_out e.answers) (handed_to entries)) asked) (rest part store rec found)
+told_one (ask.Unrule moment group id) e entries asked part rest store rec found =
+    told_before e entries store rec (ap (λ (r : Request). greets store r e.reply) asked) (ap (λ (r : Request). begun_with r (handed_out e.answers) (handed_to entries)) asked) (rest part store rec found)
 
 told_all : (entries : List Entry) → TermPart entries → ToldAll entries
 told_all [] part = absurd part
@@ -245,6 +255,8 @@ state_one (ask.Hello at moment address labels) e entries part rest store rec fou
 state_one ask.Retire e entries part rest store rec found = rest part store rec found
 state_one (ask.Alive at moment) e entries part rest store rec found = rest part store rec found
 state_one (ask.Beat at moment beat) e entries part rest store rec found = rest part store rec found
+state_one (ask.Rule moment json) e entries part rest store rec found = rest part store rec found
+state_one (ask.Unrule moment group id) e entries part rest store rec found = rest part store rec found
 
 state_all : (entries : List Entry) → TermPart entries → InState entries (handed_to entries)
 state_all [] part = absurd part

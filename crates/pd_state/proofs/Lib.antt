@@ -11,3 +11,6 @@ pub mod KnownLemmas
 pub mod ToldLemmas
 pub mod Moments
 pub mod HeardLemmas
+pub mod RuleReplies
+pub mod RuleCalls
+pub mod RulesLeft

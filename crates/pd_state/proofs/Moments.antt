@@ -81,3 +81,9 @@ term_begun past entry term moment number stores rules asked is none =
 pub term_refused : (past : List Entry) (entry : Entry) (term moment : ℕ) (reply : Reply) → begun reply entry ≡ None → entry.request ≡ ask.Term term moment → entry.reply ≡ reply → part_after (entry ∷ past) ≡ None
 term_refused past entry term moment reply none asked is =
     ap (λ (r : Request). option_map part_of (since_by r entry (since past))) asked ∙ ap (λ (p : Reply). option_map part_of (begun p entry)) is ∙ ap (λ (s : Option (List Entry)). option_map part_of s) none
+
+-- a request counts in its term
+pub counts_by : (request : Request) (past entries : List Entry) (entry : Entry) → ((part : Option (List Entry)) → since_by request entry part ≡ option_map (λ (es : List Entry). entry ∷ es) part) → since past ≡ Some entries
+    → entry.request ≡ request → since (entry ∷ past) ≡ Some (entry ∷ entries)
+counts_by request past entries entry counts is asked =
+    ap (λ (r : Request). since_by r entry (since past)) asked ∙ counts (since past) ∙ ap (option_map (λ (es : List Entry). entry ∷ es)) is

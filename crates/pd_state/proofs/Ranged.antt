@@ -50,6 +50,10 @@ ranged_more (Some es) actor line (ask.Hello store moment address labels) known p
 ranged_more (Some es) actor line (ask.Alive store moment) known p ranged is fs h = some_is _ fs h (ranged es refl)
 ranged_more (Some es) actor line (ask.Beat store moment beat) known p ranged is fs h =
     some_is (entry_of actor line (ask.Beat store moment beat) known p ∷ es) fs h (ranged_beat (beats_of es) beat p is (ranged es refl))
+ranged_more None actor line (ask.Rule moment json) known p ranged is fs h = absurd cc
+ranged_more None actor line (ask.Unrule moment group id) known p ranged is fs h = absurd cc
+ranged_more (Some es) actor line (ask.Rule moment json) known p ranged is fs h = some_is _ fs h (ranged es refl)
+ranged_more (Some es) actor line (ask.Unrule moment group id) known p ranged is fs h = some_is _ fs h (ranged es refl)
 
 ranged_after : (driver : ℕ) (past : List Entry) → IsLegal driver past → (es : List Entry) → since past ≡ Some es → AreRanged es
 ranged_after driver [] legal es h = absurd cc

@@ -7,6 +7,10 @@ use Rattle.pd_types.specs.declared.oracle.Actor.{Actor}
 use Rattle.pd_types.specs.declared.region.RegionBeat.{RegionBeat}
 use Rattle.pd_types.specs.declared.request.Request.{Request}
 use Rattle.pd_types.specs.declared.request.Request.TheVariants as ask
+use Rattle.std.specs.Prelude.{Result}
+use Rattle.pd_types.specs.declared.rule.Rule.{Rule}
+use Rattle.rule_text.specs.declared.fault.RuleFault.{RuleFault}
+use Rattle.pd_state.specs.StoredRules.{rule_told}
 use Rattle.pd_types.specs.declared.store.Label.{Label}
 use Rattle.pd_types.specs.declared.store.StoreRec.{StoreRec}
 use Rattle.region_tree.specs.Standing.{table_of}
@@ -28,7 +32,7 @@ use Rattle.pd_state.specs.HandedOut.{record_at}
 use Rattle.pd_state.specs.Heard.{answers_of, heard_of, known_after, known_more}
 use Rattle.pd_state.specs.Replies.{alive_reply}
 use Rattle.pd_state.specs.Since.{begun, since_by, since}
-use Rattle.pd_state.specs.State.{clock_of, term_of, began_of, accepted_by, beats_of, heard, heartbeat, greeting, kept_state, greeted_by, moment_of, records_of, rules_of, store_of, part_of, part_after}
+use Rattle.pd_state.specs.State.{clock_of, term_of, began_of, accepted_by, beats_of, heard, heartbeat, greeting, kept_state, greeted_by, moment_of, records_of, removed_by, rules_of, set_by, store_of, part_of, part_after}
 use Rattle.pd_state.specs.Legal.{first_reply, IsLegalAfter, IsLegal}
 use Rattle.pd_state.specs.Clusters.{is_refused, refused_by, refuses, with_clock}
 use Rattle.pd_state.specs.Steps.{begun_part, greeted, put_after, heard_after, beat_after, changed_part, new_part, stepped}
@@ -153,6 +157,30 @@ after_beat es actor line store moment beat known p = λ i. record {
   known = known_is known.answers (answers_of es) i;
 }
 
+after_rule : (es : List Entry) (actor : Actor) (line moment : ℕ) (json : List ℕ) (known : Heard) (p : Reply)
+    → changed_part (part_of es) (ask.Rule moment json) p known ≡ part_of (entry_of actor line (ask.Rule moment json) known p ∷ es)
+after_rule es actor line moment json known p = λ i. record {
+  term = term_of es;
+  began = began_of es;
+  clock = max (clock_of es) moment;
+  stores = map (store_of es) (records_of es);
+  standing = table_of (beats_of es);
+  rules = set_by p (rule_told json) (rules_of es);
+  known = known_is known.answers (answers_of es) i;
+}
+
+after_unrule : (es : List Entry) (actor : Actor) (line moment : ℕ) (group id : List ℕ) (known : Heard) (p : Reply)
+    → changed_part (part_of es) (ask.Unrule moment group id) p known ≡ part_of (entry_of actor line (ask.Unrule moment group id) known p ∷ es)
+after_unrule es actor line moment group id known p = λ i. record {
+  term = term_of es;
+  began = began_of es;
+  clock = max (clock_of es) moment;
+  stores = map (store_of es) (records_of es);
+  standing = table_of (beats_of es);
+  rules = removed_by p group id (rules_of es);
+  known = known_is known.answers (answers_of es) i;
+}
+
 -- a Term's tables are those of its entry alone
 after_term : (actor : Actor) (line term moment : ℕ) (known : Heard) (p : Reply) → new_part term moment known.answers ≡ part_of (entry_of actor line (ask.Term term moment) known p ∷ [])
 after_term actor line term moment known p = λ i. record {
@@ -185,6 +213,10 @@ refines_by None actor line (ask.Beat store moment beat) known p silent = refl
 refines_by (Some es) actor line (ask.Hello store moment address labels) known p silent = ap Some (after_hello es actor line store moment address labels known p (silent es refl))
 refines_by (Some es) actor line (ask.Alive store moment) known p silent = ap Some (after_alive es actor line store moment known p)
 refines_by (Some es) actor line (ask.Beat store moment beat) known p silent = ap Some (after_beat es actor line store moment beat known p)
+refines_by None actor line (ask.Rule moment json) known p silent = refl
+refines_by None actor line (ask.Unrule moment group id) known p silent = refl
+refines_by (Some es) actor line (ask.Rule moment json) known p silent = ap Some (after_rule es actor line moment json known p)
+refines_by (Some es) actor line (ask.Unrule moment group id) known p silent = ap Some (after_unrule es actor line moment group id known p)
 
 -- silence, over one entry more
 silent_hello : (es : List Entry) (actor : Actor) (line store moment : ℕ) (address : List ℕ) (labels : List Label) (known : Heard) (p : Reply) → Silent es → Silent (hello_of actor line store moment address labels known p ∷ es)
@@ -227,6 +259,10 @@ silent_more None actor line (ask.Beat store moment beat) known p silent is fs h 
 silent_more (Some es) actor line (ask.Hello store moment address labels) known p silent is fs h = some_is _ fs h (silent_hello es actor line store moment address labels known p (silent es refl))
 silent_more (Some es) actor line (ask.Alive store moment) known p silent is fs h = some_is _ fs h (silent_alive es actor line store moment known p is (silent es refl))
 silent_more (Some es) actor line (ask.Beat store moment beat) known p silent is fs h = some_is _ fs h (silent es refl)
+silent_more None actor line (ask.Rule moment json) known p silent is fs h = absurd cc
+silent_more None actor line (ask.Unrule moment group id) known p silent is fs h = absurd cc
+silent_more (Some es) actor line (ask.Rule moment json) known p silent is fs h = some_is _ fs h (silent es refl)
+silent_more (Some es) actor line (ask.Unrule moment group id) known p silent is fs h = some_is _ fs h (silent es refl)
 
 pub silent_after : (driver : ℕ) (past : List Entry) → IsLegal driver past → (es : List Entry) → since past ≡ Some es → Silent es
 silent_after driver [] legal es h = absurd cc
@@ -248,6 +284,14 @@ no_beat : (p : Reply) (beat : RegionBeat) (held : List RegionBeat) → refuses p
 no_beat (replies.Accepted removed) beat held h = absurd cc
 no_beat p beat held h = refl
 
+no_set : (p : Reply) (told : Result Rule RuleFault) (rules : List Rule) → refuses p ≡ true → set_by p told rules ≡ rules
+no_set replies.RulePut told rules h = absurd cc
+no_set p told rules h = refl
+
+no_removal : (p : Reply) (group id : List ℕ) (rules : List Rule) → refuses p ≡ true → removed_by p group id rules ≡ rules
+no_removal replies.RuleRemoved group id rules h = absurd cc
+no_removal p group id rules h = refl
+
 abbrev pub told_raised : Request → List MetaAnswer → Part → Part
 told_raised request answers part = record part { clock = max part.clock (moment_of request); known = known_after answers part.known }
 
@@ -264,6 +308,12 @@ leaves_by (Some part) (ask.Alive store moment) known p is h =
     ap (λ (es : List StoreEntry). Some (record part { clock = max part.clock moment; known = known_after known.answers part.known; stores = es })) (no_heard p store moment part.stores h)
 leaves_by (Some part) (ask.Beat store moment beat) known p is h =
     ap (λ (held : List RegionBeat). Some (record part { clock = max part.clock moment; known = known_after known.answers part.known; standing = held })) (no_beat p beat part.standing h)
+leaves_by None (ask.Rule moment json) known p is h = refl
+leaves_by None (ask.Unrule moment group id) known p is h = refl
+leaves_by (Some part) (ask.Rule moment json) known p is h =
+    ap (λ (rules : List Rule). Some (record part { clock = max part.clock moment; known = known_after known.answers part.known; rules = rules })) (no_set p (rule_told json) part.rules h)
+leaves_by (Some part) (ask.Unrule moment group id) known p is h =
+    ap (λ (rules : List Rule). Some (record part { clock = max part.clock moment; known = known_after known.answers part.known; rules = rules })) (no_removal p group id part.rules h)
 
 -- the journal that serve leaves
 pub served : (driver : ℕ) (entries after : List Entry) (e : Entry) (old new : Option Part) → after ≡ entries ++ e ∷ [] → IsLegal driver (reverse entries) → old ≡ part_after (reverse entries)

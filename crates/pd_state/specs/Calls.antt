@@ -1,10 +1,17 @@
 -- What each request asks of the metadata (own choice: which calls, in which order, and that none is made after a refused one).
-use Rattle.std.specs.Prelude.{◌≡◌, ℕ, Bool, true, false, if◌then◌else◌, List, [], ◌∷◌, length, Option, Some, None, option_map}
+use Rattle.std.specs.Prelude.{◌≡◌, ℕ, nat_lt, Bool, true, false, ◌||◌, if◌then◌else◌, List, [], ◌∷◌, codes, find, length, Result, Ok, Err, Option, Some, None, option_map}
+use Rattle.std.specs.List.{cons_option}
 use Rattle.pd_types.specs.declared.request.Request.{Request}
 use Rattle.pd_types.specs.declared.request.Request.TheVariants as ask
+use Rattle.serde_json.specs.Written.{compact_text}
+use Rattle.pd_types.specs.declared.rule.Rule.{Rule}
 use Rattle.pd_types.specs.declared.store.Label.{Label}
 use Rattle.pd_types.specs.declared.store.StoreRec.{StoreRec}
 use Rattle.store_table.specs.Entries.{entry_at, state_at}
+use Rattle.rule_set.specs.Changes.{remove_refusal}
+use Rattle.rule_set.specs.Order.{is_named}
+use Rattle.rule_text.specs.declared.fault.RuleFault.{RuleFault}
+use Rattle.rule_text.specs.Meaning.{rule_data}
 use Rattle.meta_store.specs.declared.record.MetaAnswer.{MetaAnswer}
 use Rattle.meta_store.specs.declared.record.MetaCall.{MetaCall}
 use Rattle.meta_store.specs.declared.record.MetaCall.TheVariants as calls
@@ -13,8 +20,9 @@ use Rattle.meta_store.specs.Past.{is_accepted}
 use Rattle.meta_store.specs.Stores.{store_bytes, store_key}
 use Rattle.pd_state.specs.declared.part.Part.{Part}
 use Rattle.pd_state.specs.declared.reply.Reply.{Reply}
-use Rattle.pd_state.specs.Replies.{hello_refusal}
+use Rattle.pd_state.specs.Replies.{hello_refusal, removal_refused, rule_refusal}
 use Rattle.pd_state.specs.State.{greeting, kept_state}
+use Rattle.pd_state.specs.StoredRules.{rule_key, rule_told}
 
 -- of these calls, made one after another, the one that comes next after the answers so far; none after a refused one
 abbrev pub in_turn : List MetaCall → List MetaAnswer → Option MetaCall
@@ -40,11 +48,56 @@ abbrev pub hello_calls : Part → ℕ → List ℕ → List Label → List MetaC
 hello_calls part store address labels =
     unless (hello_refusal (state_at store part.stores) (length part.stores)) (put_call part (store_key store) (store_bytes (greeted_record part store address labels)) ∷ [])
 
+-- the name of the default rule
+abbrev pub is_default : Rule → Bool
+is_default rule = is_named (codes "pd") (codes "default") rule
+
+-- a write of a rule's text under its key
+abbrev pub rule_put : Part → Rule → MetaCall
+rule_put part rule = put_call part (rule_key rule.group rule.id) (compact_text (rule_data rule))
+
+-- the revision that is known of a rule's record; 0 where it isn't stored
+abbrev pub rule_revision : Part → List ℕ → List ℕ → ℕ
+rule_revision part group id = revision_in (cell_at (rule_key group id) part.known)
+
+-- Before another rule is set, the default rule is written, where the set still has it and its key isn't stored: a new term would
+-- otherwise be without it
+abbrev pub default_put : Part → Rule → Option MetaCall
+default_put part rule =
+    if is_default rule || nat_lt 0 (rule_revision part (codes "pd") (codes "default")) then None else option_map (rule_put part) (find is_default part.rules)
+
+-- a rule that was told is written behind that
+abbrev pub told_calls : Part → Result Rule RuleFault → List MetaCall
+told_calls part (Ok rule) = cons_option (default_put part rule) (rule_put part rule ∷ [])
+told_calls part (Err fault) = []
+
+-- what setting a rule writes
+abbrev pub rule_calls : Part → Result Rule RuleFault → List MetaCall
+rule_calls part told = unless (rule_refusal told part.rules) (told_calls part told)
+
+-- the deletion of a rule's record, where it is stored
+abbrev pub rule_delete : Part → List ℕ → List ℕ → Option MetaCall
+rule_delete part group id =
+    if nat_lt 0 (rule_revision part group id) then Some (calls.Delete part.term (rule_key group id) (rule_revision part group id)) else None
+
+-- what removing a rule deletes
+abbrev pub unrule_calls : Part → List ℕ → List ℕ → List MetaCall
+unrule_calls part group id = unless (removal_refused (remove_refusal group id part.rules)) (cons_option (rule_delete part group id) [])
+
 -- the call that a request makes next, after these answers: a Term announces its term, and without a term part no other request makes one
 abbrev pub next_call : Option Part → Request → List MetaAnswer → Option MetaCall
 next_call part (ask.Term term moment) before = in_turn (calls.Lead term ∷ []) before
+next_call part ask.Retire before = None
 next_call (Some part) (ask.Hello store moment address labels) before = in_turn (hello_calls part store address labels) before
-next_call _ _ before = None
+next_call (Some part) (ask.Alive store moment) before = None
+next_call (Some part) (ask.Beat store moment beat) before = None
+next_call (Some part) (ask.Rule moment json) before = in_turn (rule_calls part (rule_told json)) before
+next_call (Some part) (ask.Unrule moment group id) before = in_turn (unrule_calls part group id) before
+next_call None (ask.Hello store moment address labels) before = None
+next_call None (ask.Alive store moment) before = None
+next_call None (ask.Beat store moment beat) before = None
+next_call None (ask.Rule moment json) before = None
+next_call None (ask.Unrule moment group id) before = None
 
 -- what is said of the answers behind one: the same of those to the calls that are left, or there are none
 abbrev pub AreLeft : Bool → Type 0 → List MetaAnswer → Type 0

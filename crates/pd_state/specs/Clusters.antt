@@ -51,11 +51,22 @@ refuses (replies.Bad fault) = true
 refuses (replies.Stale kept) = true
 refuses replies.Full = true
 refuses (replies.Accepted removed) = false
+refuses (replies.BadRule fault) = true
+refuses replies.RuleLimit = true
+refuses replies.RulePut = false
+refuses replies.Absent = true
+refuses replies.LastRule = true
+refuses replies.RuleRemoved = false
 
 -- a request with this reply is refused; a Term isn't among these, since a refused one ends the term before it
 abbrev pub refused_by : Request → Reply → Bool
 refused_by (ask.Term term moment) reply = false
-refused_by _ reply = refuses reply
+refused_by ask.Retire reply = refuses reply
+refused_by (ask.Hello store moment address labels) reply = refuses reply
+refused_by (ask.Alive store moment) reply = refuses reply
+refused_by (ask.Beat store moment beat) reply = refuses reply
+refused_by (ask.Rule moment json) reply = refuses reply
+refused_by (ask.Unrule moment group id) reply = refuses reply
 
 -- the entry is a request that was refused, and no Term
 abbrev pub is_refused : Entry → Bool

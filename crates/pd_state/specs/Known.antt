@@ -29,7 +29,12 @@ where_put _ fact = false
 -- the request is a hello of this store, and was accepted
 abbrev pub greets : ℕ → Request → Reply → Bool
 greets store (ask.Hello at moment address labels) reply = where_put reply (nat_eq at store)
-greets store _ reply = false
+greets store (ask.Term term moment) reply = false
+greets store ask.Retire reply = false
+greets store (ask.Alive at moment) reply = false
+greets store (ask.Beat at moment beat) reply = false
+greets store (ask.Rule moment json) reply = false
+greets store (ask.Unrule moment group id) reply = false
 
 -- an accepted hello of this store
 abbrev pub is_hello : ℕ → Entry → Bool
@@ -49,7 +54,12 @@ pub record LastHello (entries : List Entry) (store : ℕ) (address : List ℕ) (
 -- the records that the Term was handed, which is the first of these entries
 abbrev pub begun_with : Request → List Cell → List Cell → List Cell
 begun_with (ask.Term term moment) own before = own
-begun_with _ own before = before
+begun_with ask.Retire own before = before
+begun_with (ask.Hello store moment address labels) own before = before
+begun_with (ask.Alive store moment) own before = before
+begun_with (ask.Beat store moment beat) own before = before
+begun_with (ask.Rule moment json) own before = before
+begun_with (ask.Unrule moment group id) own before = before
 
 -- the records that a term part was handed
 abbrev pub handed_to : List Entry → List Cell

@@ -7,7 +7,8 @@ use Rattle.heartbeat.specs.Intakes.{intake_of}
 use Rattle.meta_store.specs.Asked.{AreAsked}
 use Rattle.pd_state.specs.Calls.{next_call}
 use Rattle.pd_state.specs.Heard.{heard_of}
-use Rattle.pd_state.specs.Replies.{alive_reply, beat_reply, begin_reply, hello_reply}
+use Rattle.pd_state.specs.Replies.{alive_reply, beat_reply, begin_reply, hello_reply, rule_reply, unrule_reply}
+use Rattle.pd_state.specs.StoredRules.{rule_told}
 use Rattle.pd_state.specs.declared.entry.Entry.{Entry}
 use Rattle.pd_state.specs.declared.heard.Heard.{Heard}
 use Rattle.pd_state.specs.declared.part.Part.{Part}
@@ -22,11 +23,18 @@ term_reply part ask.Retire heard = replies.Retired
 term_reply part (ask.Hello store moment address labels) heard = hello_reply (state_at store part.stores) (length part.stores) heard
 term_reply part (ask.Alive store moment) heard = alive_reply (state_at store part.stores)
 term_reply part (ask.Beat store moment beat) heard = beat_reply (intake_of beat part.standing)
+term_reply part (ask.Rule moment json) heard = rule_reply (rule_told json) part.rules heard
+term_reply part (ask.Unrule moment group id) heard = unrule_reply group id part.rules heard
 
 -- the first reply that applies: without a term part every request but Term is not served
 abbrev pub first_reply : Option Part → Request → Heard → Reply
 first_reply None (ask.Term term moment) heard = begin_reply term heard
-first_reply None _ heard = replies.NotLeading
+first_reply None ask.Retire heard = replies.NotLeading
+first_reply None (ask.Hello store moment address labels) heard = replies.NotLeading
+first_reply None (ask.Alive store moment) heard = replies.NotLeading
+first_reply None (ask.Beat store moment beat) heard = replies.NotLeading
+first_reply None (ask.Rule moment json) heard = replies.NotLeading
+first_reply None (ask.Unrule moment group id) heard = replies.NotLeading
 first_reply (Some part) request heard = term_reply part request heard
 
 -- an entry that this past of a driver's cluster allows

@@ -1,10 +1,16 @@
 -- What comes first of each request's replies, by the state and by what the metadata answered.
-use Rattle.std.specs.Prelude.{ℕ, nat_le, if◌then◌else◌, List, [], ◌∷◌, length, Option, Some, None}
+use Rattle.std.specs.Prelude.{ℕ, nat_le, if◌then◌else◌, List, [], ◌∷◌, length, Option, Some, None, Result, Ok, Err}
+use Rattle.pd_types.specs.declared.rule.Rule.{Rule}
 use Rattle.pd_types.specs.declared.store.StoreState.{StoreState}
 use Rattle.pd_types.specs.declared.store.StoreState.TheVariants as states
 use Rattle.store_table.specs.declared.table.TheConstants.{MOST_STORES}
 use Rattle.heartbeat.specs.declared.intake.Intake.{Intake}
 use Rattle.heartbeat.specs.declared.intake.Intake.TheVariants as intakes
+use Rattle.rule_set.specs.Changes.{remove_refusal, set_refusal}
+use Rattle.rule_set.specs.declared.fault.RemoveFault.{RemoveFault}
+use Rattle.rule_set.specs.declared.fault.RemoveFault.TheVariants.{Absent, LastRule}
+use Rattle.rule_set.specs.declared.fault.SetFault.{SetFault}
+use Rattle.rule_text.specs.declared.fault.RuleFault.{RuleFault}
 use Rattle.meta_store.specs.declared.record.MetaAnswer.{MetaAnswer}
 use Rattle.meta_store.specs.declared.record.MetaVerdict.{MetaVerdict}
 use Rattle.meta_store.specs.declared.record.MetaVerdict.TheVariants as verdicts
@@ -49,6 +55,30 @@ hello_refusal None known = if nat_le MOST_STORES known then Some replies.Limit e
 -- a hello
 abbrev pub hello_reply : Option StoreState → ℕ → Heard → Reply
 hello_reply state known heard = or_then (hello_refusal state known) (by_answers replies.StorePut heard.answers)
+
+-- the reply to a rule that a full set refuses
+abbrev pub set_refused : Option SetFault → Option Reply
+set_refused None = None
+set_refused (Some fault) = Some replies.RuleLimit
+
+-- what refuses a rule before the metadata is asked: its text, or 64 rules of other names
+abbrev pub rule_refusal : Result Rule RuleFault → List Rule → Option Reply
+rule_refusal (Err fault) rules = Some (replies.BadRule fault)
+rule_refusal (Ok rule) rules = set_refused (set_refusal rule rules)
+
+-- a rule
+abbrev pub rule_reply : Result Rule RuleFault → List Rule → Heard → Reply
+rule_reply told rules heard = or_then (rule_refusal told rules) (by_answers replies.RulePut heard.answers)
+
+-- the reply to a removal that the set refuses
+abbrev pub removal_refused : Option RemoveFault → Option Reply
+removal_refused None = None
+removal_refused (Some Absent) = Some replies.Absent
+removal_refused (Some LastRule) = Some replies.LastRule
+
+-- a removal
+abbrev pub unrule_reply : List ℕ → List ℕ → List Rule → Heard → Reply
+unrule_reply group id rules heard = or_then (removal_refused (remove_refusal group id rules)) (by_answers replies.RuleRemoved heard.answers)
 
 -- a store heartbeat, by the store's known state
 abbrev pub alive_reply : Option StoreState → Reply

@@ -2,8 +2,24 @@
 use Rattle.std.specs.Prelude.{ℕ, List, ◌++◌, codes}
 use Rattle.std.specs.Fmt.{decimal}
 use Rattle.pd_types.specs.BeatCheck.{fault_number}
+use Rattle.rule_text.specs.declared.fault.RuleFault.{RuleFault}
+use Rattle.rule_text.specs.declared.fault.RuleFault.TheVariants as faults
 use Rattle.pd_state.specs.declared.reply.Reply.{Reply}
 use Rattle.pd_state.specs.declared.reply.Reply.TheVariants as replies
+
+-- the number of the test that a rule's text fails, from 1 on; want of memory is no answer
+abbrev pub rule_fault_number : RuleFault → ℕ
+rule_fault_number faults.NotJson = 1
+rule_fault_number faults.NotObject = 2
+rule_fault_number faults.Missing = 3
+rule_fault_number faults.WrongKind = 4
+rule_fault_number faults.BadHex = 5
+rule_fault_number faults.BadRole = 6
+rule_fault_number faults.BadOp = 7
+rule_fault_number faults.BadCount = 8
+rule_fault_number faults.EmptyRange = 9
+rule_fault_number faults.IsolationLevel = 10
+rule_fault_number faults.NoMemory = 0
 
 -- the words of the answer, and its numbers in decimal
 abbrev pub reply_text : Reply → List ℕ
@@ -21,4 +37,10 @@ reply_text replies.Alive = codes "alive"
 reply_text (replies.Bad fault) = codes "bad " ++ decimal (fault_number fault)
 reply_text (replies.Stale kept) = codes "stale conf " ++ decimal kept.conf_ver ++ codes " version " ++ decimal kept.version
 reply_text replies.Full = codes "full"
+reply_text (replies.BadRule fault) = codes "bad-rule " ++ decimal (rule_fault_number fault)
+reply_text replies.RuleLimit = codes "rule-limit"
+reply_text replies.RulePut = codes "rule set"
+reply_text replies.Absent = codes "absent"
+reply_text replies.LastRule = codes "last-rule"
+reply_text replies.RuleRemoved = codes "rule removed"
 reply_text (replies.Accepted removed) = codes "accepted removed " ++ decimal removed ++ codes " none"

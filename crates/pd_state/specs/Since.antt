@@ -18,6 +18,8 @@ since_by ask.Retire entry part = None
 since_by (ask.Hello store moment address labels) entry part = option_map (λ entries. entry ∷ entries) part
 since_by (ask.Alive store moment) entry part = option_map (λ entries. entry ∷ entries) part
 since_by (ask.Beat store moment beat) entry part = option_map (λ entries. entry ∷ entries) part
+since_by (ask.Rule moment json) entry part = option_map (λ entries. entry ∷ entries) part
+since_by (ask.Unrule moment group id) entry part = option_map (λ entries. entry ∷ entries) part
 
 -- the term part: the entries from the last Term on, where that one was accepted and no Retire came later
 abbrev pub since : List Entry → Option (List Entry)

@@ -1,5 +1,5 @@
 -- What the entries of a term part say of the present: its clock, stores, rules, regions, and which revisions it knows. Each list of entries has the latest first.
-use Rattle.std.specs.Prelude.{ℕ, nat_eq, max, if◌then◌else◌, List, [], ◌∷◌, map, Option, Some, None, option_map}
+use Rattle.std.specs.Prelude.{ℕ, nat_eq, max, if◌then◌else◌, List, [], ◌∷◌, map, Option, Some, None, option_map, Result, Ok}
 use Rattle.pd_types.specs.declared.region.RegionBeat.{RegionBeat}
 use Rattle.pd_types.specs.declared.request.Request.{Request}
 use Rattle.pd_types.specs.declared.request.Request.TheVariants as ask
@@ -10,7 +10,11 @@ use Rattle.pd_types.specs.declared.store.StoreState.TheVariants.{Up}
 use Rattle.region_tree.specs.Standing.{table_of}
 use Rattle.store_table.specs.declared.entry.StoreEntry.{StoreEntry}
 use Rattle.store_table.specs.Standing.{later}
+use Rattle.rule_set.specs.Changes.{with_rule}
+use Rattle.rule_set.specs.Order.{without}
+use Rattle.rule_text.specs.declared.fault.RuleFault.{RuleFault}
 use Rattle.meta_store.specs.Known.{kept_of}
+use Rattle.pd_state.specs.StoredRules.{rule_told}
 use Rattle.pd_state.specs.HandedOut.{or_default, record_at, rules_told, stores_told, with_record}
 use Rattle.pd_state.specs.Heard.{answers_of, handed_out, heard_of}
 use Rattle.pd_state.specs.declared.entry.Entry.{Entry}
@@ -27,6 +31,8 @@ moment_of ask.Retire = 0
 moment_of (ask.Hello store moment address labels) = moment
 moment_of (ask.Alive store moment) = moment
 moment_of (ask.Beat store moment beat) = moment
+moment_of (ask.Rule moment json) = moment
+moment_of (ask.Unrule moment group id) = moment
 
 -- the clock: the greatest moment of all requests, refused, bad and stale ones too
 abbrev pub clock_of : List Entry → ℕ
@@ -36,7 +42,12 @@ clock_of (entry ∷ entries) = max (clock_of entries) (moment_of entry.request)
 -- the number of a Term, else the one before
 abbrev pub term_by : Request → ℕ → ℕ
 term_by (ask.Term term moment) before = term
-term_by _ before = before
+term_by ask.Retire before = before
+term_by (ask.Hello store moment address labels) before = before
+term_by (ask.Alive store moment) before = before
+term_by (ask.Beat store moment beat) before = before
+term_by (ask.Rule moment json) before = before
+term_by (ask.Unrule moment group id) before = before
 
 -- the number of the last Term
 abbrev pub term_of : List Entry → ℕ
@@ -46,7 +57,12 @@ term_of (entry ∷ entries) = term_by entry.request (term_of entries)
 -- the moment of a Term, else the one before
 abbrev pub began_by : Request → ℕ → ℕ
 began_by (ask.Term term moment) before = moment
-began_by _ before = before
+began_by ask.Retire before = before
+began_by (ask.Hello store moment address labels) before = before
+began_by (ask.Alive store moment) before = before
+began_by (ask.Beat store moment beat) before = before
+began_by (ask.Rule moment json) before = before
+began_by (ask.Unrule moment group id) before = before
 
 -- the moment of the last Term
 abbrev pub began_of : List Entry → ℕ
@@ -61,7 +77,12 @@ accepted_by _ beat earlier = earlier
 -- the accepted region heartbeats with one request more
 abbrev pub beats_by : Request → Reply → List RegionBeat → List RegionBeat
 beats_by (ask.Beat store moment beat) reply earlier = accepted_by reply beat earlier
-beats_by _ reply earlier = earlier
+beats_by (ask.Term term moment) reply earlier = earlier
+beats_by ask.Retire reply earlier = earlier
+beats_by (ask.Hello store moment address labels) reply earlier = earlier
+beats_by (ask.Alive store moment) reply earlier = earlier
+beats_by (ask.Rule moment json) reply earlier = earlier
+beats_by (ask.Unrule moment group id) reply earlier = earlier
 
 -- the accepted region heartbeats, the latest first
 abbrev pub beats_of : List Entry → List RegionBeat
@@ -86,7 +107,11 @@ alive_by _ store at moment before = before
 abbrev pub heartbeat_by : Request → Reply → ℕ → Option ℕ → Option ℕ
 heartbeat_by (ask.Hello at moment address labels) reply store before = hello_by reply store at moment before
 heartbeat_by (ask.Alive at moment) reply store before = alive_by reply store at moment before
-heartbeat_by _ reply store before = before
+heartbeat_by (ask.Term term moment) reply store before = before
+heartbeat_by ask.Retire reply store before = before
+heartbeat_by (ask.Beat at moment beat) reply store before = before
+heartbeat_by (ask.Rule moment json) reply store before = before
+heartbeat_by (ask.Unrule moment group id) reply store before = before
 
 -- a store's last heartbeat: the greatest moment of its accepted hellos and alives
 abbrev pub heartbeat : List Entry → ℕ → Option ℕ
@@ -111,17 +136,36 @@ greeted_by _ rec recs = recs
 abbrev pub records_by : Request → Reply → Heard → List StoreRec → List StoreRec
 records_by (ask.Term term moment) reply heard recs = stores_told (handed_out heard.answers)
 records_by (ask.Hello store moment address labels) reply heard recs = greeted_by reply (greeting store address labels) recs
-records_by _ reply heard recs = recs
+records_by ask.Retire reply heard recs = recs
+records_by (ask.Alive store moment) reply heard recs = recs
+records_by (ask.Beat store moment beat) reply heard recs = recs
+records_by (ask.Rule moment json) reply heard recs = recs
+records_by (ask.Unrule moment group id) reply heard recs = recs
 
 -- the records that the Term was handed, with the later accepted changes
 abbrev pub records_of : List Entry → List StoreRec
 records_of [] = []
 records_of (entry ∷ entries) = records_by entry.request entry.reply (heard_of entry) (records_of entries)
 
--- a Term's rules are those that it was handed
+-- a rule that was told, where the reply sets it
+abbrev pub set_by : Reply → Result Rule RuleFault → List Rule → List Rule
+set_by replies.RulePut (Ok rule) rules = with_rule rule rules
+set_by _ told rules = rules
+
+-- the rule of this group and id goes, where the reply removes it
+abbrev pub removed_by : Reply → List ℕ → List ℕ → List Rule → List Rule
+removed_by replies.RuleRemoved group id rules = without group id rules
+removed_by _ group id rules = rules
+
+-- a Term's rules are those that it was handed; an accepted Rule sets one, and an accepted Unrule removes one
 abbrev pub rules_by : Request → Reply → Heard → List Rule → List Rule
 rules_by (ask.Term term moment) reply heard rules = or_default (rules_told (handed_out heard.answers))
-rules_by _ reply heard rules = rules
+rules_by (ask.Rule moment json) reply heard rules = set_by reply (rule_told json) rules
+rules_by (ask.Unrule moment group id) reply heard rules = removed_by reply group id rules
+rules_by ask.Retire reply heard rules = rules
+rules_by (ask.Hello store moment address labels) reply heard rules = rules
+rules_by (ask.Alive store moment) reply heard rules = rules
+rules_by (ask.Beat store moment beat) reply heard rules = rules
 
 -- the rules that the Term was handed, with the later accepted changes
 abbrev pub rules_of : List Entry → List Rule

@@ -17,7 +17,8 @@ use Rattle.pd_state.specs.declared.heard.Heard.{Heard}
 use Rattle.pd_state.specs.declared.part.Part.{Part}
 use Rattle.pd_state.specs.declared.reply.Reply.{Reply}
 use Rattle.pd_state.specs.declared.reply.Reply.TheVariants as replies
-use Rattle.pd_state.specs.State.{moment_of, greeting, kept_state}
+use Rattle.pd_state.specs.State.{moment_of, greeting, kept_state, removed_by, set_by}
+use Rattle.pd_state.specs.StoredRules.{rule_told}
 
 -- a store that says hello: a new one's term began with that of its cluster
 abbrev pub greeted : Option StoreEntry → StoreRec → ℕ → ℕ → StoreEntry
@@ -43,7 +44,11 @@ abbrev pub stores_after : Request → Reply → ℕ → List StoreEntry → List
 stores_after (ask.Hello store moment address labels) reply began entries =
     hello_after reply (kept_state (option_map (λ entry. entry.store) (entry_at store entries)) (greeting store address labels)) began moment entries
 stores_after (ask.Alive store moment) reply began entries = heard_after reply store moment entries
-stores_after _ reply began entries = entries
+stores_after (ask.Term term moment) reply began entries = entries
+stores_after ask.Retire reply began entries = entries
+stores_after (ask.Beat store moment beat) reply began entries = entries
+stores_after (ask.Rule moment json) reply began entries = entries
+stores_after (ask.Unrule moment group id) reply began entries = entries
 
 -- the regions after a heartbeat with this reply
 abbrev pub beat_after : Reply → RegionBeat → List RegionBeat → List RegionBeat
@@ -53,11 +58,22 @@ beat_after _ beat held = held
 -- the regions after a request with this reply
 abbrev pub standing_after : Request → Reply → List RegionBeat → List RegionBeat
 standing_after (ask.Beat store moment beat) reply held = beat_after reply beat held
-standing_after _ reply held = held
+standing_after (ask.Term term moment) reply held = held
+standing_after ask.Retire reply held = held
+standing_after (ask.Hello store moment address labels) reply held = held
+standing_after (ask.Alive store moment) reply held = held
+standing_after (ask.Rule moment json) reply held = held
+standing_after (ask.Unrule moment group id) reply held = held
 
 -- the rules after a request with this reply
 abbrev pub rules_after : Request → Reply → List Rule → List Rule
-rules_after _ reply rules = rules
+rules_after (ask.Rule moment json) reply rules = set_by reply (rule_told json) rules
+rules_after (ask.Unrule moment group id) reply rules = removed_by reply group id rules
+rules_after (ask.Term term moment) reply rules = rules
+rules_after ask.Retire reply rules = rules
+rules_after (ask.Hello store moment address labels) reply rules = rules
+rules_after (ask.Alive store moment) reply rules = rules
+rules_after (ask.Beat store moment beat) reply rules = rules
 
 -- the tables of a term after a request with this reply, that heard this
 abbrev pub changed_part : Part → Request → Reply → Heard → Part

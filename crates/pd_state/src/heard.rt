@@ -43,3 +43,14 @@ pub fn with_answer(alloc: Global, reply: Reply, answer: MetaAnswer) -> Result<Do
         heard: Heard { answers },
     })
 }
+
+/// A reply to a request that heard these answers.
+pub fn with_answers(reply: Reply, answers: MetaAnswers) -> Done
+    ensures reply { result.reply ≡ reply }
+    ensures heard { result.heard.answers ≡ answers }
+{
+    Done {
+        reply,
+        heard: Heard { answers },
+    }
+}

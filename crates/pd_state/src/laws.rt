@@ -74,6 +74,24 @@ pub fn the_clock_is_the_greatest_moment()
     ensures alive { (store moment : ℕ) → moment_of (ask.Alive store moment) ≡ moment }
     ensures beat { (store moment : ℕ) (beat : RegionBeat) →
         moment_of (ask.Beat store moment beat) ≡ moment }
+    ensures rule { (moment : ℕ) (json : List ℕ) → moment_of (ask.Rule moment json) ≡ moment }
+    ensures unrule { (moment : ℕ) (group id : List ℕ) →
+        moment_of (ask.Unrule moment group id) ≡ moment }
+{}
+
+/// Every request of a store and each about a rule counts in the term that it is served in, refused or
+/// not, behind those before it.
+pub fn a_request_counts_in_its_term()
+    ensures hello { (past entries : List Entry) (entry : Entry) (store moment : ℕ) (address : List ℕ) (labels : List Label) →
+        since past ≡ Some entries → entry.request ≡ ask.Hello store moment address labels → since (entry ∷ past) ≡ Some (entry ∷ entries) }
+    ensures alive { (past entries : List Entry) (entry : Entry) (store moment : ℕ) →
+        since past ≡ Some entries → entry.request ≡ ask.Alive store moment → since (entry ∷ past) ≡ Some (entry ∷ entries) }
+    ensures beat { (past entries : List Entry) (entry : Entry) (store moment : ℕ) (beat : RegionBeat) →
+        since past ≡ Some entries → entry.request ≡ ask.Beat store moment beat → since (entry ∷ past) ≡ Some (entry ∷ entries) }
+    ensures rule { (past entries : List Entry) (entry : Entry) (moment : ℕ) (json : List ℕ) →
+        since past ≡ Some entries → entry.request ≡ ask.Rule moment json → since (entry ∷ past) ≡ Some (entry ∷ entries) }
+    ensures unrule { (past entries : List Entry) (entry : Entry) (moment : ℕ) (group id : List ℕ) →
+        since past ≡ Some entries → entry.request ≡ ask.Unrule moment group id → since (entry ∷ past) ≡ Some (entry ∷ entries) }
 {}
 
 /// A Term that is accepted begins anew, at its own moment, with what it was handed; after one that is
@@ -113,6 +131,10 @@ pub fn a_term_tells_its_stores_and_rules()
         first_reply None (ask.Alive store moment) heard ≡ replies.NotLeading }
     ensures beat { (store moment : ℕ) (beat : RegionBeat) (heard : Heard) →
         first_reply None (ask.Beat store moment beat) heard ≡ replies.NotLeading }
+    ensures rule { (moment : ℕ) (json : List ℕ) (heard : Heard) →
+        first_reply None (ask.Rule moment json) heard ≡ replies.NotLeading }
+    ensures unrule { (moment : ℕ) (group id : List ℕ) (heard : Heard) →
+        first_reply None (ask.Unrule moment group id) heard ≡ replies.NotLeading }
     ensures retire { (heard : Heard) → first_reply None ask.Retire heard ≡ replies.NotLeading }
     ensures retires { (part : Part) (heard : Heard) → first_reply (Some part) ask.Retire heard ≡ replies.Retired }
 {}
@@ -167,9 +189,10 @@ pub fn a_hello_is_answered_as_it_was_written()
         hello_reply state known (record { answers = answer_of call verdicts.Limit [] ∷ [] }) ≡ replies.MetaLimit }
 {}
 
-/// The calls of each request. A Term announces its term, and a hello that nothing refuses before
-/// writes the store's record at the known revision; no other request of these makes a call, and no
-/// request but a Term makes one without a term.
+/// The calls of each request, but for those of `the_calls_of_a_rule` and `the_calls_of_a_removal`. A
+/// Term announces its term, and a hello that nothing refuses before writes the store's record at the
+/// known revision; heartbeats and a Retire make no call, and no request but a Term makes one without a
+/// term.
 pub fn the_calls_of_each_request()
     ensures term { (part : Option Part) (term moment : ℕ) (answers : List MetaAnswer) →
         AreAsked (next_call part (ask.Term term moment)) [] answers → AreCalls (calls.Lead term ∷ []) answers }
@@ -192,6 +215,10 @@ pub fn the_calls_of_each_request()
         AreAsked (next_call part ask.Retire) [] answers → answers ≡ [] }
     ensures without { (store moment : ℕ) (address : List ℕ) (labels : List Label) (answers : List MetaAnswer) →
         AreAsked (next_call None (ask.Hello store moment address labels)) [] answers → answers ≡ [] }
+    ensures rule { (moment : ℕ) (json : List ℕ) (answers : List MetaAnswer) →
+        AreAsked (next_call None (ask.Rule moment json)) [] answers → answers ≡ [] }
+    ensures unrule { (moment : ℕ) (group id : List ℕ) (answers : List MetaAnswer) →
+        AreAsked (next_call None (ask.Unrule moment group id)) [] answers → answers ≡ [] }
 {}
 
 /// The revision that a term knows of a key is that of the last accepted write of it that the term
@@ -230,6 +257,10 @@ pub fn a_store_is_heard_by_hello_and_alive()
         heartbeat_by (ask.Hello at moment address labels) replies.StorePut store before ≡ before }
     ensures beat { (store at moment : ℕ) (beat : RegionBeat) (reply : Reply) (before : Option ℕ) →
         heartbeat_by (ask.Beat at moment beat) reply store before ≡ before }
+    ensures rule { (store moment : ℕ) (json : List ℕ) (reply : Reply) (before : Option ℕ) →
+        heartbeat_by (ask.Rule moment json) reply store before ≡ before }
+    ensures unrule { (store moment : ℕ) (group id : List ℕ) (reply : Reply) (before : Option ℕ) →
+        heartbeat_by (ask.Unrule moment group id) reply store before ≡ before }
     ensures began { (entries : List Entry) →
         All (λ store. store.began ≡ began_of entries) (part_of entries).stores }
 {}

@@ -1,4 +1,4 @@
-//! The cluster of a driver: what it knows of stores and regions, and the journal of its requests.
+//! The cluster of a driver: what it knows of stores, rules and regions, and the journal of its requests.
 #![tactic(auto)]
 
 mod cluster;
@@ -7,7 +7,9 @@ mod handed;
 mod heard;
 mod laws;
 mod part;
+mod placement;
 mod reply;
+mod rule_laws;
 mod rules;
 mod serve;
 mod stores;
@@ -20,11 +22,16 @@ pub use entry::{Entry, Journal};
 pub use heard::Heard;
 pub use laws::{
     a_heartbeat_is_answered_as_taken, a_hello_is_answered_as_it_was_written,
-    a_store_is_heard_by_hello_and_alive, a_term_begins_anew, a_term_tells_its_stores_and_rules,
-    each_reply_is_the_first_that_applies, the_calls_of_each_request,
-    the_clock_is_the_greatest_moment, the_regions_are_those_that_stand,
+    a_request_counts_in_its_term, a_store_is_heard_by_hello_and_alive, a_term_begins_anew,
+    a_term_tells_its_stores_and_rules, each_reply_is_the_first_that_applies,
+    the_calls_of_each_request, the_clock_is_the_greatest_moment, the_regions_are_those_that_stand,
     the_revisions_are_those_heard, the_rules_are_those_that_were_handed_out,
     the_stores_are_those_that_said_hello, the_stores_are_those_that_were_handed_out, who_is_heard,
 };
 pub use part::Part;
 pub use reply::Reply;
+pub use rule_laws::{
+    how_a_removal_is_answered, how_a_rule_is_answered, the_calls_of_a_removal, the_calls_of_a_rule,
+    the_numbers_of_a_rules_faults, what_a_rule_leaves_alone, what_is_left_of_the_rules,
+    what_is_stored_of_a_rule,
+};

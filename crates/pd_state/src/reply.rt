@@ -1,8 +1,9 @@
 ghost use Rattle.std.specs.Prelude.{◌≡◌, Some};
 ghost use Rattle.pd_types.specs.BeatCheck.{fault_number};
-ghost use Rattle.pd_state.specs.ReplyText.{reply_text};
+ghost use Rattle.pd_state.specs.ReplyText.{reply_text, rule_fault_number};
 
 use pd_types::{BeatFault, Duplicate, Epoch, NoMemory};
+use rule_text::RuleFault;
 use std::alloc::Global;
 use std::fmt;
 
@@ -37,6 +38,16 @@ pub enum Reply {
     Full,
     /// The heartbeat stands; so many overlapped regions of other ids went.
     Accepted { removed: u64 },
+    /// The rule's text fails this test.
+    BadRule(RuleFault),
+    /// There are 64 rules, and none of this group and id.
+    RuleLimit,
+    RulePut,
+    /// There is no rule of this group and id.
+    Absent,
+    /// There is no other rule.
+    LastRule,
+    RuleRemoved,
 }
 
 // The number of a test of a region heartbeat, from 1 to 8.
@@ -52,6 +63,25 @@ fn fault_number(fault: BeatFault) -> u8
         BeatFault::LeaderNotVoter => 6,
         BeatFault::BadRange => 7,
         BeatFault::LongKey => 8,
+    }
+}
+
+// The number of a test of a rule's text, from 1 to 10.
+fn rule_fault_number(fault: RuleFault) -> u8
+    ensures value { result ≡ rule_fault_number fault }
+{
+    match fault {
+        RuleFault::NotJson => 1,
+        RuleFault::NotObject => 2,
+        RuleFault::Missing => 3,
+        RuleFault::WrongKind => 4,
+        RuleFault::BadHex => 5,
+        RuleFault::BadRole => 6,
+        RuleFault::BadOp => 7,
+        RuleFault::BadCount => 8,
+        RuleFault::EmptyRange => 9,
+        RuleFault::IsolationLevel => 10,
+        RuleFault::NoMemory => 0,
     }
 }
 
@@ -86,6 +116,15 @@ impl fmt::Display for Reply {
             }
             Reply::Full => write!(f, "full"),
             Reply::Accepted { removed } => write!(f, "accepted removed {removed} none"),
+            Reply::BadRule(fault) => {
+                let number = rule_fault_number(*fault);
+                write!(f, "bad-rule {number}")
+            }
+            Reply::RuleLimit => write!(f, "rule-limit"),
+            Reply::RulePut => write!(f, "rule set"),
+            Reply::Absent => write!(f, "absent"),
+            Reply::LastRule => write!(f, "last-rule"),
+            Reply::RuleRemoved => write!(f, "rule removed"),
         }
     }
 }
@@ -116,6 +155,12 @@ impl Duplicate for Reply {
             Reply::Stale { kept } => Reply::Stale { kept: *kept },
             Reply::Full => Reply::Full,
             Reply::Accepted { removed } => Reply::Accepted { removed: *removed },
+            Reply::BadRule(fault) => Reply::BadRule(*fault),
+            Reply::RuleLimit => Reply::RuleLimit,
+            Reply::RulePut => Reply::RulePut,
+            Reply::Absent => Reply::Absent,
+            Reply::LastRule => Reply::LastRule,
+            Reply::RuleRemoved => Reply::RuleRemoved,
         })
     }
 }

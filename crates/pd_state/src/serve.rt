@@ -14,6 +14,7 @@ ghost use Rattle.store_table.specs.Entries.{state_at};
 
 use crate::handed::{rules_told, stores_told};
 use crate::heard::{Done, quiet, with_answer};
+use crate::placement::{rule, unrule};
 use crate::stores::{greet, greeted_record, hear, hello_refusal};
 use crate::write::{put, refusal};
 use crate::{Part, Reply};
@@ -178,6 +179,14 @@ pub fn step<M: Door>(
         },
         Request::Alive { store, moment } => match part {
             Some(held) => Ok(quiet(alloc, alive(held, *store, *moment))),
+            None => Ok(quiet(alloc, Reply::NotLeading)),
+        },
+        Request::Rule { moment, json } => match part {
+            Some(held) => rule(alloc, driver, held, *moment, json, door),
+            None => Ok(quiet(alloc, Reply::NotLeading)),
+        },
+        Request::Unrule { moment, group, id } => match part {
+            Some(held) => unrule(alloc, driver, held, *moment, group, id, door),
             None => Ok(quiet(alloc, Reply::NotLeading)),
         },
         Request::Beat {

@@ -1,5 +1,5 @@
 use crate::{Cluster, Reply};
-use meta_store::{Meta, store_key};
+use meta_store::{Meta, MetaCall, MetaEntry, MetaVerdict, store_key};
 use pd_types::{
     Actor, BeatFault, Bytes, Downs, Epoch, Ids, Labels, NoMemory, Peer, Region, RegionBeat,
     Request, Role, Seq, Text,
@@ -67,11 +67,25 @@ fn beat(alloc: Global, line: &str) -> Result<Request, NoMemory> {
     })
 }
 
-// The request that a line stands for: its kind, and its numbers.
+// The request that a line stands for: its kind, and its numbers; of `rule` the text, and of `unrule`
+// the id of a rule of the group `pd`.
 fn request(alloc: Global, line: &str) -> Result<Request, NoMemory> {
     let (kind, rest) = line.split_once(' ').unwrap_or((line, ""));
     if kind == "beat" {
         return beat(alloc, rest);
+    }
+    if kind == "rule" {
+        return Ok(Request::Rule {
+            moment: 1000,
+            json: Bytes::of(Vec::from_slice(alloc, rest.as_bytes())?),
+        });
+    }
+    if kind == "unrule" {
+        return Ok(Request::Unrule {
+            moment: 1000,
+            group: Text::of(String::from_str(alloc, "pd")?),
+            id: Text::of(String::from_str(alloc, rest)?),
+        });
     }
     let mut words = rest.split(' ');
     let first = number(words.next());
@@ -101,15 +115,27 @@ fn answer(
     Ok(format!(in alloc; "{reply}")?)
 }
 
-// Serves each line, whose answer stands behind ` => `, over metadata of its own.
+// Serves each line, whose answer stands behind ` => `.
+fn serve_lines(
+    rt: &impl Abort,
+    alloc: Global,
+    cluster: &mut Cluster,
+    meta: &mut Meta,
+    lines: &str,
+) -> Result<(), Fail> {
+    for line in lines.lines() {
+        let (asked, want) = line.split_once(" => ").unwrap_or((line, ""));
+        let text = answer(alloc, cluster, meta, asked)?;
+        assert_eq!(rt; text.as_str(), want, "at {line}");
+    }
+    Ok(())
+}
+
+// The same, by a new cluster over metadata of its own.
 fn serve_all(rt: &impl Abort, alloc: Global, lines: &str) -> Result<Cluster, Fail> {
     let mut meta = Meta::new(alloc);
     let mut cluster = Cluster::new(alloc, 1);
-    for line in lines.lines() {
-        let (asked, want) = line.split_once(" => ").unwrap_or((line, ""));
-        let text = answer(alloc, &mut cluster, &mut meta, asked)?;
-        assert_eq!(rt; text.as_str(), want, "at {line}");
-    }
+    serve_lines(rt, alloc, &mut cluster, &mut meta, lines)?;
     Ok(cluster)
 }
 
@@ -288,6 +314,185 @@ fn a_term_begins_with_the_records_that_read(rt: HostRuntime) -> Result<(), Fail>
         let text = answer(alloc, &mut cluster, &mut meta, "term 1 1000")?;
         assert_eq!(rt; text.as_str(), want, "at {key} {bytes}");
     }
+    Ok(())
+}
+
+// Rules are set and removed, and a new term knows them. The default rule is written with the first
+// other one; a rule that was never written is removed without a call.
+const RULES: &str = r#"rule {} => not-leading
+term 1 1000 => term 1 stores 0 rules 1
+rule {"group_id":"pd","id":"x","role":"voter","count":1,"start_key":"40","color":"red"} => rule set
+rule {"group_id":"pd","id":"x","role":"voter","count":1,"isolation_level":"zone"} => bad-rule 10
+rule {"group_id":"pd","id":"x"} => bad-rule 3
+unrule y => absent
+term 2 1000 => term 2 stores 0 rules 2
+unrule x => rule removed
+unrule default => last-rule
+term 3 1000 => term 3 stores 0 rules 1
+rule {"group_id":"pd","id":"x","role":"learner","count":2} => rule set
+unrule default => rule removed
+unrule x => last-rule
+term 4 1000 => term 4 stores 0 rules 1
+unrule default => absent
+"#;
+
+#[test]
+fn rules_are_set_and_removed(rt: HostRuntime) -> Result<(), Fail> {
+    serve_all(&rt, rt.alloc(), RULES)?;
+    Ok(())
+}
+
+// The worked row of rules: after a lead, three stores and a region.
+const RULE_ROW: &str = r#"term 1 1000 => term 1 stores 0 rules 1
+hello 1 1000 => store put
+hello 2 1000 => store put
+hello 3 1000 => store put
+beat 1000 7 - - 1 1 11 => accepted removed 0 none
+rule {"group_id":"pd","id":"x","role":"voter","count":1,"start_key":"40","color":"red"} => rule set
+rule {"group_id":"pd","id":"x","role":"voter","count":1,"start_key":"40","color":"red","isolation_level":"zone"} => bad-rule 10
+unrule y => absent
+unrule x => rule removed
+unrule default => last-rule
+"#;
+
+#[test]
+fn the_row_of_rules(rt: HostRuntime) -> Result<(), Fail> {
+    serve_all(&rt, rt.alloc(), RULE_ROW)?;
+    Ok(())
+}
+
+// With 64 rules, `7` of the group `pd` among them, a rule of a new name is refused, and no other.
+const AT_THE_LIMIT: &str = r#"rule {"group_id":"pd","id":"7","role":"voter","count":2} => rule set
+rule {"group_id":"qd","id":"7","role":"voter","count":2} => rule-limit
+unrule 7 => rule removed
+rule {"group_id":"qd","id":"7","role":"voter","count":2} => rule set
+"#;
+
+#[test]
+fn the_65th_rule_is_refused(rt: HostRuntime) -> Result<(), Fail> {
+    let alloc = rt.alloc();
+    let mut meta = Meta::new(alloc);
+    let mut cluster = Cluster::new(alloc, 1);
+    answer(alloc, &mut cluster, &mut meta, "term 1 1000")?;
+    for id in 1..65u64 {
+        let want = if id < 64 { "rule set" } else { "rule-limit" };
+        let line = format!(in alloc;
+            "rule {{\"group_id\":\"pd\",\"id\":\"{id}\",\"role\":\"voter\",\"count\":1}}"
+        )?;
+        let text = answer(alloc, &mut cluster, &mut meta, line.as_str())?;
+        assert_eq!(rt; text.as_str(), want, "at {id}");
+    }
+    serve_lines(&rt, alloc, &mut cluster, &mut meta, AT_THE_LIMIT)
+}
+
+// What a driver whose rule `x` is set is answered once it is outdated: a refused write leaves the rules.
+const LED: &str = r#"term 1 1000 => term 1 stores 0 rules 1
+rule {"group_id":"pd","id":"x","role":"voter","count":1} => rule set
+"#;
+
+const OUTDATED: &str = r#"rule {"group_id":"pd","id":"x"} => bad-rule 3
+rule {"group_id":"pd","id":"y","role":"voter","count":1} => old-term 5
+unrule y => absent
+unrule x => old-term 5
+rule {"group_id":"pd","id":"x","role":"learner","count":1} => old-term 5
+unrule default => old-term 5
+"#;
+
+#[test]
+fn rules_of_an_outdated_driver_are_refused(rt: HostRuntime) -> Result<(), Fail> {
+    let alloc = rt.alloc();
+    let mut meta = Meta::new(alloc);
+    let mut cluster = Cluster::new(alloc, 1);
+    serve_lines(&rt, alloc, &mut cluster, &mut meta, LED)?;
+    let Ok(_) = meta.lead(2, 5) else {
+        return Err(Fail::new("no lead"));
+    };
+    serve_lines(&rt, alloc, &mut cluster, &mut meta, OUTDATED)
+}
+
+// Whether a call wrote this key at this revision, with this verdict.
+fn is_put(entry: &MetaEntry, at: &str, revision: u64, verdict: MetaVerdict) -> bool {
+    match &entry.call {
+        MetaCall::Put { key, expected, .. } => {
+            key.as_slice() == at.as_bytes() && *expected == revision && entry.verdict == verdict
+        }
+        MetaCall::Lead { .. } | MetaCall::Delete { .. } => false,
+    }
+}
+
+// The default rule's key, as docs/FORMATS.md spells it, and that of the rule `x` of its group.
+const DEFAULT_KEY: &str = "rule/7064/64656661756c74";
+
+const X_KEY: &str = "rule/7064/78";
+
+// The first rule that is set is written behind the default rule, and later ones alone.
+const TWICE: &str = r#"term 1 1000 => term 1 stores 0 rules 1
+rule {"group_id":"pd","id":"x","role":"voter","count":1} => rule set
+rule {"group_id":"pd","id":"x","role":"voter","count":2} => rule set
+"#;
+
+#[test]
+fn the_default_rule_is_written_with_the_first_other_one(rt: HostRuntime) -> Result<(), Fail> {
+    let alloc = rt.alloc();
+    let mut meta = Meta::new(alloc);
+    let mut cluster = Cluster::new(alloc, 1);
+    serve_lines(&rt, alloc, &mut cluster, &mut meta, TWICE)?;
+    let rows = [
+        (DEFAULT_KEY, 0, MetaVerdict::Accepted { revision: 1 }),
+        (X_KEY, 0, MetaVerdict::Accepted { revision: 2 }),
+        (X_KEY, 2, MetaVerdict::Accepted { revision: 3 }),
+    ];
+    assert_eq!(rt; meta.journal().len(), 4);
+    for (entry, (key, revision, verdict)) in meta.journal().iter().skip(1).zip(rows) {
+        assert!(rt;
+            is_put(entry, key, revision, verdict),
+            "at {key} {revision}"
+        );
+    }
+    Ok(())
+}
+
+// A record of the rule was written behind the cluster's back, so that the second write is refused;
+// the default rule stays stored, and the next rule is written alone.
+const SECOND_REFUSED: &str =
+    r#"rule {"group_id":"pd","id":"x","role":"voter","count":1} => conflict 1
+unrule x => absent
+unrule default => last-rule
+rule {"group_id":"pd","id":"y","role":"voter","count":1} => rule set
+unrule y => rule removed
+term 2 1000 => term 2 stores 0 rules 2
+"#;
+
+#[test]
+fn a_refused_second_write_leaves_the_default_rule_stored(rt: HostRuntime) -> Result<(), Fail> {
+    let alloc = rt.alloc();
+    let mut meta = Meta::new(alloc);
+    let mut cluster = Cluster::new(alloc, 1);
+    answer(alloc, &mut cluster, &mut meta, "term 1 1000")?;
+    let (_, bytes, _) = KEPT[3];
+    keep(&mut meta, X_KEY.as_bytes(), bytes.as_bytes())?;
+    serve_lines(&rt, alloc, &mut cluster, &mut meta, SECOND_REFUSED)?;
+    // Two leads, the record behind the cluster's back, the two writes, that of `y`, and its deletion.
+    assert_eq!(rt; meta.journal().len(), 7);
+    Ok(())
+}
+
+// Behind a refused write of the default rule none is made.
+const FIRST_REFUSED: &str =
+    r#"rule {"group_id":"pd","id":"x","role":"voter","count":1} => conflict 1
+unrule x => absent
+"#;
+
+#[test]
+fn a_refused_first_write_changes_nothing(rt: HostRuntime) -> Result<(), Fail> {
+    let alloc = rt.alloc();
+    let mut meta = Meta::new(alloc);
+    let mut cluster = Cluster::new(alloc, 1);
+    answer(alloc, &mut cluster, &mut meta, "term 1 1000")?;
+    keep(&mut meta, DEFAULT_KEY.as_bytes(), b"-")?;
+    serve_lines(&rt, alloc, &mut cluster, &mut meta, FIRST_REFUSED)?;
+    // The lead, the record behind the cluster's back, and the refused write.
+    assert_eq!(rt; meta.journal().len(), 3);
     Ok(())
 }
 

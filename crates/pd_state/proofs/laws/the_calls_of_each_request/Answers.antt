@@ -11,4 +11,6 @@ returns c = record {
   beat = beat_calls;
   retire = retire_calls;
   without = λ store moment address labels answers asked. no_calls answers asked;
+  rule = λ moment json answers asked. no_calls answers asked;
+  unrule = λ moment group id answers asked. no_calls answers asked;
 }

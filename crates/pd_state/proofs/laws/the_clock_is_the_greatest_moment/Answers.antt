@@ -10,4 +10,6 @@ returns c = record {
   hello = λ store moment address labels. refl;
   alive = λ store moment. refl;
   beat = λ store moment beat. refl;
+  rule = λ moment json. refl;
+  unrule = λ moment group id. refl;
 }

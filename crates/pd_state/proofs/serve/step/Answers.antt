@@ -19,3 +19,13 @@ pub returns-in-Some-clause-asked : goal.returns-in-Some-clause-asked
 returns-in-Some-clause-asked g c =
     let at : (let x : Option Part × Request = (c.args.part.now, c.args.request.now) in x) ≡ (Some c.in-Some.held, ask.Hello c.in-Hello.store c.in-Hello.moment c.in-Hello.address c.in-Hello.labels) = λ i. (c.in-Some.is i, c.in-Hello.is i) in
     subst (λ (x : Option Part × Request). IfOk c.hello.result (λ done. AreAsked (next_call x.0 x.1) [] done.heard.answers)) (sym at) c.hello.ensures.asked
+
+pub returns-in-Some-part-2-clause-asked : goal.returns-in-Some-part-2-clause-asked
+returns-in-Some-part-2-clause-asked g c =
+    let at : (let x : Option Part × Request = (c.args.part.now, c.args.request.now) in x) ≡ (Some c.in-Some-part-2.held, ask.Rule c.in-Rule.moment c.in-Rule.json) = λ i. (c.in-Some-part-2.is i, c.in-Rule.is i) in
+    subst (λ (x : Option Part × Request). IfOk c.rule.result (λ done. AreAsked (next_call x.0 x.1) [] done.heard.answers)) (sym at) c.rule.ensures.asked
+
+pub returns-in-Some-part-3-clause-asked : goal.returns-in-Some-part-3-clause-asked
+returns-in-Some-part-3-clause-asked g c =
+    let at : (let x : Option Part × Request = (c.args.part.now, c.args.request.now) in x) ≡ (Some c.in-Some-part-3.held, ask.Unrule c.in-Unrule.moment c.in-Unrule.group c.in-Unrule.id) = λ i. (c.in-Some-part-3.is i, c.in-Unrule.is i) in
+    subst (λ (x : Option Part × Request). IfOk c.unrule.result (λ done. AreAsked (next_call x.0 x.1) [] done.heard.answers)) (sym at) c.unrule.ensures.asked
