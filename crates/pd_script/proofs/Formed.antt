@@ -1,8 +1,9 @@
--- What a store asks has its form, and the driver that it asks is 1 or more.
-use Rattle.std.proofs.Common.{◌≡◌, ◌⊎◌, inl, inr, ◌<◌, ◌^◌, ℕ, List, [], ◌∷◌, length, take, drop, Bool, true, false, not, cond, nat_lt, All, Option, Some, None, refl, sym, subst, arith}
+-- What a line asks has its form, and the driver that it asks is 1 or more.
+use Rattle.std.proofs.Common.{◌≡◌, ◌⊎◌, inl, inr, ◌<◌, ◌^◌, ℕ, List, [], ◌∷◌, length, take, drop, ◌≤◌, Bool, true, false, not, cond, nat_le, nat_lt, All, Option, Some, None, refl, sym, subst, arith}
 use Rattle.std.specs.Prelude.{Result, Ok, Err, codes, ◌&&◌}
 use Rattle.std.specs.List.{AllByRecursion}
 use Rattle.std.specs.Str.{bytes_eq}
+use Rattle.std.proofs.lemmas.Bool.Decides.{nat_tests}
 use Rattle.std.proofs.lemmas.List.Elements.{All-from_recursion, All-nil}
 use Rattle.pd_lines.specs.Labels.{AreLabels, labels_of}
 use Rattle.pd_lines.specs.Numeral.{number_of}
@@ -13,21 +14,23 @@ use Rattle.pd_types.specs.declared.region.Peer.{Peer}
 use Rattle.pd_types.specs.declared.region.RegionBeat.{RegionBeat}
 use Rattle.pd_types.specs.declared.region.Role.{Role}
 use Rattle.pd_types.specs.declared.region.Role.TheVariants.{Voter, Learner}
-use Rattle.pd_types.specs.declared.request.Request.TheVariants.{Hello, Alive, Beat}
+use Rattle.pd_types.specs.declared.request.Request.TheVariants.{Hello, Alive, Beat, Rule, Unrule}
 use Rattle.pd_types.specs.declared.store.Label.{Label}
 use Rattle.pd_script.specs.Asks.{alive_of, asked_of, beat_of, greeted, head_of, hello_of, labels_or, region_of, reported, troubled_of}
 use Rattle.pd_script.specs.Formed.{IsAsked, IsDown, IsId, IsPeer, IsReport, IsSpoken}
 use Rattle.pd_script.specs.Forms.{Item, address_form, and_then, before_colon, down_of, downs_from, downs_of, ids_from, in_front, is_colon, items_of, key_form, peer_of, peers_from, peers_of, pending_of, role_of, spelled_or, unless_colon}
 use Rattle.pd_script.specs.Places.{read_place}
+use Rattle.pd_script.specs.RuleLines.{is_name, json_form, name_form, rule_by, unrule_of}
+use Rattle.pd_script.specs.Words.{behind_word, trimmed, words}
 use Rattle.pd_script.specs.declared.ask.Asked.{Asked}
 use Rattle.pd_script.specs.declared.ask.Head.{Head}
 use Rattle.pd_script.specs.declared.ask.Troubled.{Troubled}
 use Rattle.pd_script.specs.declared.place.Place.TheVariants.{Driver, Id, Moment, Seconds, Version}
 use Rattle.pd_script.specs.declared.refusal.Reason.{Reason}
 use Rattle.pd_script.specs.declared.refusal.Reason.TheVariants.{BadWord, ExtraWord, MissingWord}
-use Rattle.pd_script.specs.declared.verb.StoreVerb.{StoreVerb}
-use Rattle.pd_script.specs.declared.verb.StoreVerb.TheVariants.{Hello as ToHello, Alive as ToAlive, Beat as ToBeat}
-use Rattle.pd_script.proofs.Results.{InPlace, in_place, no_fine, same_ok, then_read}
+use Rattle.pd_script.specs.declared.request_verb.RequestVerb.{RequestVerb}
+use Rattle.pd_script.specs.declared.request_verb.RequestVerb.TheVariants.{Hello as ToHello, Alive as ToAlive, Beat as ToBeat, Rule as ToRule, Unrule as ToUnrule}
+use Rattle.pd_script.proofs.Results.{InPlace, both_true, in_place, no_fine, same_ok, then_read}
 
 -- what a test lets through
 when_ok : {A : Type 0} (b : Bool) (x y : A) (reason : Reason) → cond {A = Result A Reason} b (Ok x) (Err reason) ≡ Ok y → (b ≡ true) × (x ≡ y)
@@ -37,11 +40,6 @@ when_ok false x y reason is = no_fine reason y is
 unless_ok : {A : Type 0} (b : Bool) (r : Result A Reason) (y : A) (reason : Reason) → cond {A = Result A Reason} b (Err reason) r ≡ Ok y → r ≡ Ok y
 unless_ok true r y reason is = no_fine reason y is
 unless_ok false r y reason is = is
-
-both_true : (a b : Bool) → (a && b) ≡ true → (a ≡ true) × (b ≡ true)
-both_true true true is = (refl, refl)
-both_true true false is = cc
-both_true false b is = cc
 
 not_false : (b : Bool) → not b ≡ true → b ≡ false
 not_false true is = cc
@@ -162,7 +160,7 @@ head_ok store driver moment h is =
     subst IsHead (same_ok (record { store = s.0; driver = d.0; moment = m.0 }) h m.2)
     (record { spoken = record { id = read_id store s.0 s.1; low = omega (arith, moment_in.high) }; pos = omega (arith, driver_in.low) })
 
--- what was read of a store's line
+-- what was read of such a line
 pub record IsFine (a : Asked) : Type 0 where
   pub pos : 0 < a.driver
   pub asked : IsAsked a.request
@@ -264,7 +262,48 @@ beat_ok (s ∷ d ∷ m ∷ r ∷ b ∷ e ∷ c ∷ v ∷ l ∷ p ∷ more) a is 
     reported_ok s d m (region_of r b e c v l p) (troubled_of more) a (λ beat same. region_ok r b e c v l p beat same) (λ t same. troubled_ok more t same)
     (unless_ok (nat_lt 2 (length more)) (reported (head_of s d m) (region_of r b e c v l p) (troubled_of more)) a ExtraWord is)
 
-pub asked_ok : (verb : StoreVerb) (ws : List (List ℕ)) (a : Asked) → asked_of verb ws ≡ Ok a → IsFine a
-asked_ok ToHello ws a is = hello_ok ws a is
-asked_ok ToAlive ws a is = alive_ok ws a is
-asked_ok ToBeat ws a is = beat_ok ws a is
+-- the lines of rules
+read_driver : (word : List ℕ) (n : ℕ) → read_place Driver word ≡ Ok n → 0 < n
+read_driver word n is = omega (arith, (in_place Driver (number_of word) n is).low)
+
+read_moment : (word : List ℕ) (n : ℕ) → read_place Moment word ≡ Ok n → n < 2 ^ 46
+read_moment word n is = omega (arith, (in_place Moment (number_of word) n is).high)
+
+json_low : (text json : List ℕ) → json_form text ≡ Ok json → length json ≤ 4096
+json_low text json is =
+    let o = when_ok (nat_le (length text) 4096) text json BadWord is in
+    subst (λ (x : List ℕ). length x ≤ 4096) o.1 (grind (arith, nat_tests, o.0))
+
+name_ok : (word name : List ℕ) → name_form word ≡ Ok name → is_name name ≡ true
+name_ok word name is = let o = when_ok (is_name word) word name BadWord is in subst (λ (x : List ℕ). is_name x ≡ true) o.1 o.0
+
+rule_ok : (ws : List (List ℕ)) (json : List ℕ) (a : Asked) → rule_by ws json ≡ Ok a → IsFine a
+rule_ok [] json a is = no_fine MissingWord a is
+rule_ok (d ∷ []) json a is = no_fine MissingWord a is
+rule_ok (d ∷ m ∷ []) json a is = no_fine MissingWord a is
+rule_ok (driver ∷ moment ∷ first ∷ more) json a is =
+    let d = then_read (read_place Driver driver) _ a is in
+    let m = then_read (read_place Moment moment) _ a d.2 in
+    let j = then_read (json_form json) _ a m.2 in
+    subst IsFine (same_ok (record { driver = d.0; request = Rule m.0 j.0 }) a j.2) (record { pos = read_driver driver d.0 d.1; asked = (read_moment moment m.0 m.1, json_low json j.0 j.1) })
+
+unrule_ok : (ws : List (List ℕ)) (a : Asked) → unrule_of ws ≡ Ok a → IsFine a
+unrule_ok [] a is = no_fine MissingWord a is
+unrule_ok (d ∷ []) a is = no_fine MissingWord a is
+unrule_ok (d ∷ m ∷ []) a is = no_fine MissingWord a is
+unrule_ok (d ∷ m ∷ g ∷ []) a is = no_fine MissingWord a is
+unrule_ok (driver ∷ moment ∷ group ∷ id ∷ []) a is =
+    let d = then_read (read_place Driver driver) _ a is in
+    let m = then_read (read_place Moment moment) _ a d.2 in
+    let g = then_read (name_form group) _ a m.2 in
+    let i = then_read (name_form id) _ a g.2 in
+    subst IsFine (same_ok (record { driver = d.0; request = Unrule m.0 g.0 i.0 }) a i.2)
+    (record { pos = read_driver driver d.0 d.1; asked = (read_moment moment m.0 m.1, name_ok group g.0 g.1, name_ok id i.0 i.1) })
+unrule_ok (d ∷ m ∷ g ∷ i ∷ more ∷ rest) a is = no_fine ExtraWord a is
+
+pub asked_ok : (verb : RequestVerb) (rest : List ℕ) (a : Asked) → asked_of verb rest ≡ Ok a → IsFine a
+asked_ok ToHello rest a is = hello_ok (words rest) a is
+asked_ok ToAlive rest a is = alive_ok (words rest) a is
+asked_ok ToBeat rest a is = beat_ok (words rest) a is
+asked_ok ToRule rest a is = rule_ok (words rest) (trimmed (behind_word (behind_word rest))) a is
+asked_ok ToUnrule rest a is = unrule_ok (words rest) a is

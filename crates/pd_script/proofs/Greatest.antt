@@ -3,8 +3,8 @@ use Rattle.std.proofs.Common.{ℕ, ◌≤◌, List, [], ◌∷◌, All, arith}
 use Rattle.std.specs.List.{AllByRecursion}
 use Rattle.std.proofs.lemmas.List.Elements.{All-from_recursion}
 use Rattle.pd_script.specs.Scripts.{greatest}
-use Rattle.pd_script.specs.declared.verb.Event.{Event}
-use Rattle.pd_script.specs.declared.verb.Numbered.{Numbered}
+use Rattle.pd_script.specs.declared.event.Event.{Event}
+use Rattle.pd_script.specs.declared.event.Numbered.{Numbered}
 
 pub at_least_one : (of : Event → ℕ) (events : List Numbered) → 1 ≤ greatest of events
 at_least_one of [] = omega arith

@@ -5,14 +5,14 @@ use Rattle.std.specs.List.{AllByRecursion}
 use Rattle.std.proofs.lemmas.List.{length-map}
 use Rattle.std.proofs.lemmas.List.Elements.{All-from_recursion}
 use Rattle.pd_lines.specs.Numeral.{number_of}
-use Rattle.pd_script.specs.Asks.{asked_of, store_verb_of}
-use Rattle.pd_script.specs.Grammar.{AtFault, by_store_verb, with_request, and_event, and_line, and_number, arity, by_verb, content_of, event_of, events_from, events_of, has_bad_byte, is_passed_over, listed, numbers_of, padded, raw_content, read_places, some_event, unless, with_numbers}
+use Rattle.pd_script.specs.Asks.{asked_of, request_verb_of}
+use Rattle.pd_script.specs.Grammar.{AtFault, by_request_verb, with_request, and_event, and_line, and_number, arity, by_verb, content_of, event_of, events_from, events_of, has_bad_byte, is_passed_over, listed, numbers_of, padded, raw_content, read_places, some_event, unless, with_numbers}
 use Rattle.pd_script.specs.Formed.{IsAsked}
 use Rattle.pd_script.specs.Lawful.{AreLawful, IsFormed, IsLawful, IsLawfulScript, IsServed, standing_of}
 use Rattle.pd_script.specs.Places.{most, read_place}
 use Rattle.pd_script.specs.Scripts.{act_by, act_of, broken_by, client_of, driver_of, greatest, line_of, script_by, script_of, unless_broken}
 use Rattle.pd_script.specs.Table.{is_misplaced, known_in, row, verb_of}
-use Rattle.pd_script.specs.Words.{RawLine, raw_lines, words}
+use Rattle.pd_script.specs.Words.{RawLine, behind_word, raw_lines, words}
 use Rattle.pd_script.specs.declared.limits.Broken.{Broken}
 use Rattle.pd_script.specs.declared.place.Place.{Place}
 use Rattle.pd_script.specs.declared.refusal.Reason.{Reason}
@@ -25,10 +25,10 @@ use Rattle.pd_script.specs.declared.act.Act.{Act}
 use Rattle.pd_script.specs.declared.act.Act.TheVariants.{Ask as AskAct}
 use Rattle.pd_script.specs.declared.act.Line.{Line}
 use Rattle.pd_script.specs.declared.ask.Asked.{Asked}
-use Rattle.pd_script.specs.declared.verb.Event.{Event}
-use Rattle.pd_script.specs.declared.verb.Event.TheVariants.{Step, Ask}
-use Rattle.pd_script.specs.declared.verb.StoreVerb.{StoreVerb}
-use Rattle.pd_script.specs.declared.verb.Numbered.{Numbered}
+use Rattle.pd_script.specs.declared.event.Event.{Event}
+use Rattle.pd_script.specs.declared.event.Event.TheVariants.{Step, Ask}
+use Rattle.pd_script.specs.declared.request_verb.RequestVerb.{RequestVerb}
+use Rattle.pd_script.specs.declared.event.Numbered.{Numbered}
 use Rattle.pd_script.specs.declared.verb.Numbers.{Numbers}
 use Rattle.pd_script.specs.declared.verb.Places.{Places}
 use Rattle.pd_script.specs.declared.verb.Places.TheVariants.{One, Two, Three}
@@ -36,7 +36,7 @@ use Rattle.pd_script.specs.declared.verb.Verb.{Verb}
 use Rattle.pd_script.specs.declared.verb.Verb.TheVariants.{Cell, Lead, Tick, Resign, Take, Tell, Hear, Read, Campaign, Save, Raise, Publish, Probe, Look, Arm, Draw}
 use Rattle.pd_script.proofs.Formed.{IsFine, asked_ok}
 use Rattle.pd_script.proofs.Greatest.{at_least_one}
-use Rattle.pd_script.proofs.LawfulLines.{AreAbove, are_above, clients_greatest, drivers_greatest, few_speakers, numbered_from, rising_from, same_actors}
+use Rattle.pd_script.proofs.LawfulLines.{AreAbove, are_above, clients_greatest, drivers_greatest, few_speakers, numbered_from, rising_from, same_actors, same_leads}
 use Rattle.pd_script.proofs.Results.{InPlace, in_place, no_fine, same_ok}
 use Rattle.pd_script.proofs.Unbroken.{all_within}
 
@@ -105,18 +105,18 @@ request_read : (first : Bool) (r : Result Asked Reason) (e : Event) → ((a : As
 request_read first (Err reason) e fine is = no_fine reason e is
 request_read first (Ok a) e fine is = let one = fine a refl in subst (λ (x : Event). IsRead Replay first x) (same_ok (Ask a.driver a.request) e is) (one.pos, one.asked, refl)
 
-ask_read : (mode : Mode) (first : Bool) (ws : List (List ℕ)) (o : Option StoreVerb) (e : Event) → by_store_verb ws (known_in mode o) ≡ Ok e → IsRead mode first e
-ask_read Run first ws o e is = no_fine UnknownWord e is
-ask_read Replay first ws None e is = no_fine UnknownWord e is
-ask_read Replay first ws (Some verb) e is = request_read first (asked_of verb ws) e (λ a same. asked_ok verb ws a same) is
+ask_read : (mode : Mode) (first : Bool) (rest : List ℕ) (o : Option RequestVerb) (e : Event) → by_request_verb rest (known_in mode o) ≡ Ok e → IsRead mode first e
+ask_read Run first rest o e is = no_fine UnknownWord e is
+ask_read Replay first rest None e is = no_fine UnknownWord e is
+ask_read Replay first rest (Some verb) e is = request_read first (asked_of verb rest) e (λ a same. asked_ok verb rest a same) is
 
-verb_read : (mode : Mode) (first : Bool) (ws : List (List ℕ)) (o : Option Verb) (other : Option StoreVerb) (e : Event) → by_verb mode first ws o (known_in mode other) ≡ Ok e → IsRead mode first e
-verb_read mode first ws None other e is = ask_read mode first ws other e is
-verb_read mode first ws (Some verb) other e is = placed_read mode first ws verb e (is_misplaced mode first (row verb).standing) refl is
+verb_read : (mode : Mode) (first : Bool) (rest : List ℕ) (o : Option Verb) (other : Option RequestVerb) (e : Event) → by_verb mode first rest o (known_in mode other) ≡ Ok e → IsRead mode first e
+verb_read mode first rest None other e is = ask_read mode first rest other e is
+verb_read mode first rest (Some verb) other e is = placed_read mode first (words rest) verb e (is_misplaced mode first (row verb).standing) refl is
 
-event_read : (mode : Mode) (first : Bool) (ws : List (List ℕ)) (e : Event) → event_of mode first ws ≡ Ok e → IsRead mode first e
-event_read mode first [] e is = no_fine UnknownWord e is
-event_read mode first (w ∷ ws) e is = verb_read mode first ws (verb_of w) (store_verb_of w) e is
+event_read : (mode : Mode) (first : Bool) (ws : List (List ℕ)) (rest : List ℕ) (e : Event) → event_of mode first ws rest ≡ Ok e → IsRead mode first e
+event_read mode first [] rest e is = no_fine UnknownWord e is
+event_read mode first (w ∷ ws) rest e is = verb_read mode first rest (verb_of w) (request_verb_of w) e is
 
 -- what a line may be
 abbrev MayBe : Mode → Bool → Result (Option Event) Reason → Type 0
@@ -133,8 +133,8 @@ may_cond mode first true x y hit miss = hit
 may_cond mode first false x y hit miss = miss
 
 content_may : (mode : Mode) (first : Bool) (line : List ℕ) → MayBe mode first (content_of mode first line)
-content_may mode first line = may_cond mode first (is_passed_over (words line)) (Ok None) (cond (has_bad_byte line) (Err BadByte) (some_event (event_of mode first (words line)))) tt
-    (may_cond mode first (has_bad_byte line) (Err BadByte) (some_event (event_of mode first (words line))) tt (some_may mode first (event_of mode first (words line)) (λ e is. event_read mode first (words line) e is)))
+content_may mode first line = may_cond mode first (is_passed_over (words line)) (Ok None) (cond (has_bad_byte line) (Err BadByte) (some_event (event_of mode first (words line) (behind_word line)))) tt
+    (may_cond mode first (has_bad_byte line) (Err BadByte) (some_event (event_of mode first (words line) (behind_word line))) tt (some_may mode first (event_of mode first (words line) (behind_word line)) (λ e is. event_read mode first (words line) (behind_word line) e is)))
 
 raw_may : (mode : Mode) (first : Bool) (raw : RawLine) → MayBe mode first (raw_content mode first raw)
 raw_may mode first raw = may_cond mode first raw.ended (content_of mode first raw.bytes) (Err NoNewline) (content_may mode first raw.bytes) tt
@@ -286,6 +286,7 @@ unbroken_lawful mode events script unbroken read above is =
       most_clients = clients_greatest events;
       events = grind (arith, length-map, kept.few);
       speakers = few_speakers events kept.stores;
+      leads = omega (arith, same_leads events, kept.leads);
     })
 
 by_lawful : (mode : Mode) (r : Result (List Numbered) AtFault) (script : Script) → ((events : List Numbered) → r ≡ Ok events → AreRead mode true events) → ((events : List Numbered) → r ≡ Ok events → AreAbove 1 events) → script_by r ≡ Ok script → IsLawfulScript mode script

@@ -1,27 +1,28 @@
 -- Of the lines of events: their numbers rise, their actors are those of their acts, the greatest drivers and clients are named,
 -- and how many stores speak.
-use Rattle.std.proofs.Common.{◌≡◌, ◌⊎◌, inl, inr, ◌<◌, ◌≤◌, ℕ, zero, suc, ◌+◌, max, List, [], ◌∷◌, ◌++◌, map, Bool, true, false, cond, nat_lt, nat_le, All, Contains, Ordering, Less, Equal, Greater, Option, Some, None, refl, sym, subst, ◌∙◌, arith}
+use Rattle.std.proofs.Common.{◌≡◌, ◌⊎◌, inl, inr, ◌<◌, ◌≤◌, ℕ, zero, suc, ◌+◌, max, List, [], ◌∷◌, ◌++◌, map, Bool, true, false, cond, nat_lt, nat_le, All, Contains, Ordering, Less, Equal, Greater, Option, Some, None, refl, ap, sym, subst, ◌∙◌, arith}
 use Rattle.std.specs.Prelude.{AllPairs, Result, Ok, Err, eqb}
 use Rattle.std.specs.BTreeSet.{insert_key}
-use Rattle.std.specs.List.{AllByRecursion, flat_map}
+use Rattle.std.specs.List.{AllByRecursion, count_by, flat_map}
 use Rattle.std.specs.Ordering.{match_ordering, nat_cmp}
 use Rattle.std.proofs.lemmas.Bool.Decides.{nat_tests}
 use Rattle.std.proofs.lemmas.List.Elements.{All-append, All-cons, All-from_recursion, All-map, All-nil, Contains-append_left, Contains-append_right}
 use Rattle.std.proofs.lemmas.List.Kept.{AllPairs-cons}
+use Rattle.std.proofs.lemmas.List.Sums.{sum_by-cons}
 use Rattle.pd_script.specs.Grammar.{AtFault, and_event, and_line, events_from, raw_content}
 use Rattle.pd_script.specs.Lawful.{AreAtMost, IsGreatest, actor_in, clients_named, drivers_named, speaking}
 use Rattle.pd_types.specs.declared.oracle.Actor.{Actor}
 use Rattle.pd_types.specs.declared.oracle.Actor.TheVariants.{Driver as ByDriver, Client as ByClient, Store as ByStore}
-use Rattle.pd_script.specs.Scripts.{act_by, act_of, actor_by, actor_of, client_of, driver_of, greatest, line_of, asker, store_in, store_of, stores_from, stores_in, with_stores}
+use Rattle.pd_script.specs.Scripts.{act_by, act_of, actor_by, actor_of, client_of, driver_of, greatest, is_lead, leads_in, line_of, asker, store_in, store_of, stores_from, stores_in, with_stores}
 use Rattle.pd_script.specs.Table.{row}
 use Rattle.pd_script.specs.Words.{RawLine}
 use Rattle.pd_script.specs.declared.act.Act.{Act}
 use Rattle.pd_script.specs.declared.act.Line.{Line}
 use Rattle.pd_script.specs.declared.refusal.Reason.{Reason}
 use Rattle.pd_script.specs.declared.script.Mode.{Mode}
-use Rattle.pd_script.specs.declared.verb.Event.{Event}
-use Rattle.pd_script.specs.declared.verb.Event.TheVariants.{Step, Ask}
-use Rattle.pd_script.specs.declared.verb.Numbered.{Numbered}
+use Rattle.pd_script.specs.declared.event.Event.{Event}
+use Rattle.pd_script.specs.declared.event.Event.TheVariants.{Step, Ask}
+use Rattle.pd_script.specs.declared.event.Numbered.{Numbered}
 use Rattle.pd_script.specs.declared.verb.Numbers.{Numbers}
 use Rattle.pd_script.specs.declared.verb.Verb.{Verb}
 use Rattle.pd_script.specs.declared.verb.Verb.TheVariants.{Cell, Lead, Tick, Resign, Take, Tell, Hear, Read, Campaign, Save, Raise, Publish, Probe, Look, Arm, Draw}
@@ -268,3 +269,10 @@ all_speak known (e ∷ es) =
 
 pub few_speakers : (events : List Numbered) → stores_in events ≤ 256 → AreAtMost 256 (flat_map (λ (line : Line). speaking line.act) (map line_of events))
 few_speakers events few = record { kept = stores_from [] events; few = few; all = all_speak [] events }
+
+-- how many lines begin a lead or end one
+pub same_leads : (events : List Numbered) → count_by (λ (line : Line). is_lead line.act) (map line_of events) ≡ leads_in events
+same_leads [] = refl
+same_leads (e ∷ es) =
+    sum_by-cons (λ (line : Line). cond (is_lead line.act) 1 0) (line_of e) (map line_of es) ∙ ap (λ (n : ℕ). cond (is_lead (act_of e.event)) 1 0 + n) (same_leads es)
+    ∙ sym (sum_by-cons (λ (n : Numbered). cond (is_lead (act_of n.event)) 1 0) e es)

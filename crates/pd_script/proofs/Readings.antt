@@ -9,8 +9,8 @@ use Rattle.pd_script.specs.Words.{RawLine, last_line, lines_from}
 use Rattle.pd_script.specs.declared.refusal.Reason.{Reason}
 use Rattle.pd_script.specs.declared.refusal.Reason.TheVariants.{NoNewline}
 use Rattle.pd_script.specs.declared.script.Mode.{Mode}
-use Rattle.pd_script.specs.declared.verb.Event.{Event}
-use Rattle.pd_script.specs.declared.verb.Numbered.{Numbered}
+use Rattle.pd_script.specs.declared.event.Event.{Event}
+use Rattle.pd_script.specs.declared.event.Numbered.{Numbered}
 
 -- the piece from start to i, with one more byte
 piece_more : (text : List ℕ) (start k : ℕ) → start + k < length text → take (k + 1) (drop start text) ≡ take k (drop start text) ++ get_or text (start + k) 0 ∷ []

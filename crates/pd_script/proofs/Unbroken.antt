@@ -1,24 +1,26 @@
 -- Where no limit is broken, each event keeps its limits.
 use Rattle.std.proofs.Common.{◌≡◌, ◌≤◌, List, Bool, true, false, All, cond, length, nat_lt, Some, None, refl, arith}
 use Rattle.std.proofs.lemmas.Bool.Decides.{nat_tests}
-use Rattle.pd_script.specs.Scripts.{broken_by, client_of, driver_of, greatest, stores_in}
+use Rattle.pd_script.specs.Scripts.{broken_by, client_of, driver_of, greatest, leads_in, stores_in}
 use Rattle.pd_script.specs.declared.limits.Broken.{Broken}
-use Rattle.pd_script.specs.declared.limits.TheConstants.{MAX_CLIENTS, MAX_DRIVERS, MAX_EVENTS, MAX_STORES}
-use Rattle.pd_script.specs.declared.verb.Numbered.{Numbered}
+use Rattle.pd_script.specs.declared.limits.TheConstants.{MAX_CLIENTS, MAX_DRIVERS, MAX_EVENTS, MAX_LEADS, MAX_STORES}
+use Rattle.pd_script.specs.declared.event.Numbered.{Numbered}
 use Rattle.pd_script.proofs.Greatest.{each_within}
 
-record Passed (a b c d : Bool) : Type 0 where
+record Passed (a b c d e : Bool) : Type 0 where
   events : a ≡ false
   drivers : b ≡ false
   clients : c ≡ false
   stores : d ≡ false
+  leads : e ≡ false
 
-no_test : (a b c d : Bool) (w x y z : Broken) → None ≡ cond a (Some w) (cond b (Some x) (cond c (Some y) (cond d (Some z) None))) → Passed a b c d
-no_test true b c d w x y z h = cc
-no_test false true c d w x y z h = cc
-no_test false false true d w x y z h = cc
-no_test false false false true w x y z h = cc
-no_test false false false false w x y z h = record { events = refl; drivers = refl; clients = refl; stores = refl }
+no_test : (a b c d e : Bool) (v w x y z : Broken) → None ≡ cond a (Some v) (cond b (Some w) (cond c (Some x) (cond d (Some y) (cond e (Some z) None)))) → Passed a b c d e
+no_test true b c d e v w x y z h = cc
+no_test false true c d e v w x y z h = cc
+no_test false false true d e v w x y z h = cc
+no_test false false false true e v w x y z h = cc
+no_test false false false false true v w x y z h = cc
+no_test false false false false false v w x y z h = record { events = refl; drivers = refl; clients = refl; stores = refl; leads = refl }
 
 -- no limit is broken
 pub record AreWithin (events : List Numbered) : Type 0 where
@@ -26,15 +28,17 @@ pub record AreWithin (events : List Numbered) : Type 0 where
   pub drivers : greatest driver_of events ≤ 7
   pub clients : greatest client_of events ≤ 64
   pub stores : stores_in events ≤ 256
+  pub leads : leads_in events ≤ 1024
 
 pub all_within : (events : List Numbered) → None ≡ broken_by events → AreWithin events
 all_within events h =
-    let tests = no_test (nat_lt MAX_EVENTS (length events)) (nat_lt MAX_DRIVERS (greatest driver_of events)) (nat_lt MAX_CLIENTS (greatest client_of events)) (nat_lt MAX_STORES (stores_in events)) _ _ _ _ h in
+    let tests = no_test (nat_lt MAX_EVENTS (length events)) (nat_lt MAX_DRIVERS (greatest driver_of events)) (nat_lt MAX_CLIENTS (greatest client_of events)) (nat_lt MAX_STORES (stores_in events)) (nat_lt MAX_LEADS (leads_in events)) _ _ _ _ _ h in
     record {
       few = grind (arith, nat_tests, tests.events);
       drivers = grind (arith, nat_tests, tests.drivers);
       clients = grind (arith, nat_tests, tests.clients);
       stores = grind (arith, nat_tests, tests.stores);
+      leads = grind (arith, nat_tests, tests.leads);
     }
 
 pub drivers_within : (events : List Numbered) → None ≡ broken_by events → All (λ e. driver_of e.event ≤ 7) events

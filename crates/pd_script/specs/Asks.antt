@@ -1,5 +1,5 @@
--- The lines by which stores speak to a driver's cluster (own choice): `hello S D NOW ADDRESS [LABELS]`, `alive S D NOW` and
--- `beat S D NOW R START END CONF VER LEADER PEERS [DOWN] [PENDING]`.
+-- The lines that ask a driver's cluster (own choice): those by which stores speak, `hello S D NOW ADDRESS [LABELS]`,
+-- `alive S D NOW` and `beat S D NOW R START END CONF VER LEADER PEERS [DOWN] [PENDING]`, and the driver's own of RuleLines.
 use Rattle.std.specs.Prelude.{ℕ, List, [], ◌∷◌, codes, length, take, nat_lt, Option, Result, Ok, Err, if◌then◌else◌}
 use Rattle.std.specs.List.{find}
 use Rattle.std.specs.Str.{bytes_eq}
@@ -8,28 +8,32 @@ use Rattle.pd_types.specs.declared.request.Request.TheVariants.{Hello, Alive, Be
 use Rattle.pd_types.specs.declared.store.Label.{Label}
 use Rattle.pd_script.specs.Forms.{address_form, and_then, downs_of, key_form, labels_form, peers_of, pending_of}
 use Rattle.pd_script.specs.Places.{read_place}
+use Rattle.pd_script.specs.RuleLines.{rule_of, unrule_of}
+use Rattle.pd_script.specs.Words.{words}
 use Rattle.pd_script.specs.declared.ask.Asked.{Asked}
 use Rattle.pd_script.specs.declared.ask.Head.{Head}
 use Rattle.pd_script.specs.declared.ask.Troubled.{Troubled}
-use Rattle.pd_script.specs.declared.verb.StoreVerb.{StoreVerb}
-use Rattle.pd_script.specs.declared.verb.StoreVerb.TheVariants.{Hello as ToHello, Alive as ToAlive, Beat as ToBeat}
+use Rattle.pd_script.specs.declared.request_verb.RequestVerb.{RequestVerb}
+use Rattle.pd_script.specs.declared.request_verb.RequestVerb.TheVariants.{Hello as ToHello, Alive as ToAlive, Beat as ToBeat, Rule as ToRule, Unrule as ToUnrule}
 use Rattle.pd_script.specs.declared.place.Place.TheVariants.{Driver, Id, Moment, Version}
 use Rattle.pd_script.specs.declared.refusal.Reason.{Reason}
 use Rattle.pd_script.specs.declared.refusal.Reason.TheVariants.{ExtraWord, MissingWord}
 
 -- the first word of such a line
-abbrev pub store_word : StoreVerb → List ℕ
-store_word ToHello = codes "hello"
-store_word ToAlive = codes "alive"
-store_word ToBeat = codes "beat"
+abbrev pub request_word : RequestVerb → List ℕ
+request_word ToHello = codes "hello"
+request_word ToAlive = codes "alive"
+request_word ToBeat = codes "beat"
+request_word ToRule = codes "rule"
+request_word ToUnrule = codes "unrule"
 
 -- all of them
-abbrev pub store_verbs : List StoreVerb
-store_verbs = ToHello ∷ ToAlive ∷ ToBeat ∷ []
+abbrev pub request_verbs : List RequestVerb
+request_verbs = ToHello ∷ ToAlive ∷ ToBeat ∷ ToRule ∷ ToUnrule ∷ []
 
 -- the one that a word names
-abbrev pub store_verb_of : List ℕ → Option StoreVerb
-store_verb_of word = find (λ verb. bytes_eq word (store_word verb)) store_verbs
+abbrev pub request_verb_of : List ℕ → Option RequestVerb
+request_verb_of word = find (λ verb. bytes_eq word (request_word verb)) request_verbs
 
 -- `S D NOW`
 abbrev pub head_of : List ℕ → List ℕ → List ℕ → Result Head Reason
@@ -84,8 +88,10 @@ beat_of (store ∷ driver ∷ moment ∷ id ∷ start ∷ end ∷ conf_ver ∷ v
     if nat_lt 2 (length more) then Err ExtraWord else reported (head_of store driver moment) (region_of id start end conf_ver version leader peers) (troubled_of more)
 beat_of _ = Err MissingWord
 
--- what the words behind the first say
-abbrev pub asked_of : StoreVerb → List (List ℕ) → Result Asked Reason
-asked_of ToHello ws = hello_of ws
-asked_of ToAlive ws = alive_of ws
-asked_of ToBeat ws = beat_of ws
+-- what stands behind the first word, by its words or as it is
+abbrev pub asked_of : RequestVerb → List ℕ → Result Asked Reason
+asked_of ToHello rest = hello_of (words rest)
+asked_of ToAlive rest = alive_of (words rest)
+asked_of ToBeat rest = beat_of (words rest)
+asked_of ToRule rest = rule_of rest
+asked_of ToUnrule rest = unrule_of (words rest)

@@ -1,13 +1,14 @@
--- The forms of what a store asks (own choice).
-use Rattle.std.specs.Prelude.{◌≡◌, ◌⊎◌, ℕ, ◌<◌, ◌^◌, true, All}
+-- The forms of what a line asks of a cluster (own choice).
+use Rattle.std.specs.Prelude.{◌≡◌, ◌⊎◌, ℕ, ◌<◌, ◌≤◌, ◌^◌, length, true, All}
 use Rattle.pd_types.specs.declared.region.DownPeer.{DownPeer}
 use Rattle.pd_types.specs.declared.region.Peer.{Peer}
 use Rattle.pd_types.specs.declared.region.RegionBeat.{RegionBeat}
 use Rattle.pd_types.specs.declared.region.Role.TheVariants.{Voter, Learner}
 use Rattle.pd_types.specs.declared.request.Request.{Request}
-use Rattle.pd_types.specs.declared.request.Request.TheVariants.{Hello, Alive, Beat, Term, Retire}
+use Rattle.pd_types.specs.declared.request.Request.TheVariants.{Hello, Alive, Beat, Rule, Unrule, Term, Retire}
 use Rattle.pd_lines.specs.Labels.{AreLabels}
 use Rattle.pd_lines.specs.Plain.{is_plain}
+use Rattle.pd_script.specs.RuleLines.{is_name}
 
 -- the id of a store, a region or a peer: 1 to 2^63 - 1
 pub record IsId (n : ℕ) : Type 0 where
@@ -40,10 +41,13 @@ pub record IsSpoken (store moment : ℕ) : Type 0 where
   pub id : IsId store
   pub low : moment < 2 ^ 46
 
--- what a line may ask: a store's request with an address of 1 to 64 plain characters and labels, alone, or with a region
+-- what a line may ask: a store's request with an address of 1 to 64 plain characters and labels, alone, or with a region; of a
+-- driver that a rule is set, by a text of at most 4,096 bytes, or removed, by its names
 abbrev pub IsAsked : Request → Type 0
 IsAsked (Hello store moment address labels) = IsSpoken store moment × (is_plain 64 address ≡ true) × AreLabels labels
 IsAsked (Alive store moment) = IsSpoken store moment
 IsAsked (Beat store moment beat) = IsSpoken store moment × IsReport beat
+IsAsked (Rule moment json) = (moment < 2 ^ 46) × (length json ≤ 4096)
+IsAsked (Unrule moment group id) = (moment < 2 ^ 46) × (is_name group ≡ true) × (is_name id ≡ true)
 IsAsked (Term term moment) = ⊥
 IsAsked Retire = ⊥

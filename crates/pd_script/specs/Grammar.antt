@@ -1,22 +1,22 @@
 -- What a line says, or the first of its tests that fails (own choice).
 use Rattle.std.specs.Prelude.{ℕ, ◌+◌, List, [], ◌∷◌, get_or, Bool, true, false, nat_eq, nat_lt, ◌||◌, Option, Some, None, Result, Ok, Err, if◌then◌else◌}
 use Rattle.std.specs.List.{list_any}
-use Rattle.pd_script.specs.Asks.{asked_of, store_verb_of}
+use Rattle.pd_script.specs.Asks.{asked_of, request_verb_of}
 use Rattle.pd_script.specs.Places.{read_place}
 use Rattle.pd_script.specs.Table.{is_misplaced, known_in, row, verb_of}
-use Rattle.pd_script.specs.Words.{RawLine, raw_lines, words}
+use Rattle.pd_script.specs.Words.{RawLine, behind_word, raw_lines, words}
 use Rattle.pd_script.specs.declared.ask.Asked.{Asked}
 use Rattle.pd_script.specs.declared.place.Place.{Place}
 use Rattle.pd_script.specs.declared.refusal.Reason.{Reason}
 use Rattle.pd_script.specs.declared.refusal.Reason.TheVariants.{NoNewline, BadByte, UnknownWord, MissingWord, ExtraWord, Misplaced}
 use Rattle.pd_script.specs.declared.script.Mode.{Mode}
-use Rattle.pd_script.specs.declared.verb.Event.{Event}
-use Rattle.pd_script.specs.declared.verb.Event.TheVariants.{Step, Ask}
-use Rattle.pd_script.specs.declared.verb.Numbered.{Numbered}
+use Rattle.pd_script.specs.declared.event.Event.{Event}
+use Rattle.pd_script.specs.declared.event.Event.TheVariants.{Step, Ask}
+use Rattle.pd_script.specs.declared.event.Numbered.{Numbered}
 use Rattle.pd_script.specs.declared.verb.Numbers.{Numbers}
 use Rattle.pd_script.specs.declared.verb.Places.{Places}
 use Rattle.pd_script.specs.declared.verb.Places.TheVariants.{One, Two, Three}
-use Rattle.pd_script.specs.declared.verb.StoreVerb.{StoreVerb}
+use Rattle.pd_script.specs.declared.request_verb.RequestVerb.{RequestVerb}
 use Rattle.pd_script.specs.declared.verb.Verb.{Verb}
 
 -- the places one after the other
@@ -62,29 +62,29 @@ abbrev pub with_numbers : Verb → Result Numbers Reason → Result Event Reason
 with_numbers verb (Err reason) = Err reason
 with_numbers verb (Ok numbers) = Ok (Step verb numbers)
 
--- the event of what a store asks
+-- the event of what is asked
 abbrev pub with_request : Result Asked Reason → Result Event Reason
 with_request (Err reason) = Err reason
 with_request (Ok asked) = Ok (Ask asked.driver asked.request)
 
 -- what a line with another first word says
-abbrev pub by_store_verb : List (List ℕ) → Option StoreVerb → Result Event Reason
-by_store_verb ws None = Err UnknownWord
-by_store_verb ws (Some verb) = with_request (asked_of verb ws)
+abbrev pub by_request_verb : List ℕ → Option RequestVerb → Result Event Reason
+by_request_verb rest None = Err UnknownWord
+by_request_verb rest (Some verb) = with_request (asked_of verb rest)
 
 -- what a line of the oracle says
 abbrev pub step_of : Mode → Bool → Verb → List (List ℕ) → Result Event Reason
 step_of mode first verb ws = if is_misplaced mode first (row verb).standing then Err Misplaced else with_numbers verb (numbers_of (row verb).places ws)
 
--- what a line with this first word says: of the oracle's, or else of the stores'
-abbrev pub by_verb : Mode → Bool → List (List ℕ) → Option Verb → Option StoreVerb → Result Event Reason
-by_verb mode first ws None other = by_store_verb ws other
-by_verb mode first ws (Some verb) other = step_of mode first verb ws
+-- what a line with this first word says, by what stands behind it: one of the oracle's, or else one that asks a cluster
+abbrev pub by_verb : Mode → Bool → List ℕ → Option Verb → Option RequestVerb → Result Event Reason
+by_verb mode first rest None other = by_request_verb rest other
+by_verb mode first rest (Some verb) other = step_of mode first verb (words rest)
 
--- what the words of a line say
-abbrev pub event_of : Mode → Bool → List (List ℕ) → Result Event Reason
-event_of mode first [] = Err UnknownWord
-event_of mode first (w ∷ ws) = by_verb mode first ws (verb_of w) (known_in mode (store_verb_of w))
+-- what a line of these words says, by what stands behind the first
+abbrev pub event_of : Mode → Bool → List (List ℕ) → List ℕ → Result Event Reason
+event_of mode first [] rest = Err UnknownWord
+event_of mode first (w ∷ ws) rest = by_verb mode first rest (verb_of w) (known_in mode (request_verb_of w))
 
 -- the word begins with `#`
 abbrev pub is_comment : List ℕ → Bool
@@ -107,7 +107,7 @@ some_event (Ok event) = Ok (Some event)
 
 -- what a line that has its line feed says, none where it is passed over
 abbrev pub content_of : Mode → Bool → List ℕ → Result (Option Event) Reason
-content_of mode first line = if is_passed_over (words line) then Ok None else if has_bad_byte line then Err BadByte else some_event (event_of mode first (words line))
+content_of mode first line = if is_passed_over (words line) then Ok None else if has_bad_byte line then Err BadByte else some_event (event_of mode first (words line) (behind_word line))
 
 -- what a raw line says
 abbrev pub raw_content : Mode → Bool → RawLine → Result (Option Event) Reason

@@ -1,10 +1,11 @@
 -- What is true of every script that is read: the words of its lines are in the ranges and forms of the grammar, its lines are
 -- numbered, have their actors and stand where they may, its drivers and clients are the greatest named, and its limits hold.
 use Rattle.std.specs.Prelude.{◌≡◌, ◌⊎◌, ℕ, ◌<◌, ◌≤◌, ◌^◌, List, [], ◌∷◌, length, Bool, true, false, Option, Some, None, All, AllPairs, Contains, flat_map}
+use Rattle.std.specs.List.{count_by}
 use Rattle.pd_types.specs.declared.oracle.Actor.{Actor}
 use Rattle.pd_types.specs.declared.oracle.Actor.TheVariants.{Driver, Client}
 use Rattle.pd_script.specs.Formed.{IsAsked}
-use Rattle.pd_script.specs.Scripts.{asker, store_in}
+use Rattle.pd_script.specs.Scripts.{asker, is_lead, store_in}
 use Rattle.pd_script.specs.Table.{is_misplaced}
 use Rattle.pd_script.specs.declared.act.Act.{Act}
 use Rattle.pd_script.specs.declared.act.Act.TheVariants.{Cell, Lead, Tick, Resign, Take, Tell, Hear, Read, Campaign, Save, Raise, Publish, Probe, Look, Arm, Draw, Ask}
@@ -70,7 +71,7 @@ abbrev pub AreLawful : Mode → ℕ → ℕ → Bool → List Line → Type 0
 AreLawful mode drivers clients first [] = Unit {0}
 AreLawful mode drivers clients first (line ∷ lines) = (is_misplaced mode first (standing_of line.act) ≡ false) × IsLawful drivers clients line.act × AreLawful mode drivers clients false lines
 
--- what a store asks has its form
+-- what is asked of a cluster has its form
 abbrev pub IsFormed : Act → Type 0
 IsFormed (Ask driver request) = IsAsked request
 IsFormed _ = Unit {0}
@@ -148,8 +149,8 @@ pub record AreAtMost (most : ℕ) (numbers : List ℕ) : Type 0 where
   pub all : All (Contains kept) numbers
 
 -- 1 to 7 drivers and 1 to 64 clients, the greatest that are named, and lawful lines for them; line numbers that rise from 1
--- or more, each line's actor the one of its act, what stores ask in its form, and in `run` nothing of it; at most 65,536 lines
--- and 256 stores that speak
+-- or more, each line's actor the one of its act, what is asked of a cluster in its form, and in `run` nothing of it; at most
+-- 65,536 lines, 256 stores that speak and 1,024 lines `lead` and `publish`
 pub record IsLawfulScript (mode : Mode) (script : Script) : Type 0 where
   pub drivers : IsOneOf 7 script.drivers
   pub clients : IsOneOf 64 script.clients
@@ -163,3 +164,4 @@ pub record IsLawfulScript (mode : Mode) (script : Script) : Type 0 where
   pub most_clients : IsGreatest (flat_map (λ line. clients_named line.act) script.lines) script.clients
   pub events : length script.lines ≤ 65536
   pub speakers : AreAtMost 256 (flat_map (λ line. speaking line.act) script.lines)
+  pub leads : count_by (λ line. is_lead line.act) script.lines ≤ 1024

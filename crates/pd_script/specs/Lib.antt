@@ -7,6 +7,7 @@ pub mod Lawful
 pub mod Numbering
 pub mod Places
 pub mod Refusals
+pub mod RuleLines
 pub mod Scripts
 pub mod Table
 pub mod Words

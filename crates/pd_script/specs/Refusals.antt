@@ -7,8 +7,8 @@ use Rattle.pd_script.specs.declared.refusal.Reason.{Reason}
 use Rattle.pd_script.specs.declared.refusal.ScriptRefusal.{ScriptRefusal}
 use Rattle.pd_script.specs.declared.refusal.ScriptRefusal.TheVariants.{Fault, Limit, NoMemory}
 use Rattle.pd_script.specs.declared.script.Script.{Script}
-use Rattle.pd_script.specs.declared.verb.Event.{Event}
-use Rattle.pd_script.specs.declared.verb.Numbered.{Numbered}
+use Rattle.pd_script.specs.declared.event.Event.{Event}
+use Rattle.pd_script.specs.declared.event.Numbered.{Numbered}
 
 -- the refusal is the text's own, but for want of memory
 abbrev pub IsRefusal : Result Script ScriptRefusal → ScriptRefusal → Type 0

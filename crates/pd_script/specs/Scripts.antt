@@ -1,28 +1,29 @@
 -- The script of a text: its lines, and the limits that it keeps (own choice).
-use Rattle.std.specs.Prelude.{ℕ, List, [], ◌∷◌, length, map, max, nat_lt, Option, Some, None, Result, Ok, Err, if◌then◌else◌}
+use Rattle.std.specs.Prelude.{ℕ, List, [], ◌∷◌, length, map, max, Bool, true, false, nat_lt, Option, Some, None, Result, Ok, Err, if◌then◌else◌}
+use Rattle.std.specs.List.{count_by}
 use Rattle.std.specs.BTreeSet.{insert_key}
 use Rattle.std.specs.Ordering.{nat_cmp}
 use Rattle.pd_types.specs.declared.oracle.Actor.{Actor}
 use Rattle.pd_types.specs.declared.oracle.Actor.TheVariants.{Driver as ByDriver, Client as ByClient, Store as ByStore}
 use Rattle.pd_types.specs.declared.request.Request.{Request}
-use Rattle.pd_types.specs.declared.request.Request.TheVariants.{Hello, Alive, Beat, Term as BeginTerm, Retire}
+use Rattle.pd_types.specs.declared.request.Request.TheVariants.{Hello, Alive, Beat, Rule, Unrule, Term as BeginTerm, Retire}
 use Rattle.pd_script.specs.Grammar.{AtFault, events_of}
 use Rattle.pd_script.specs.Table.{row}
 use Rattle.pd_script.specs.declared.act.Act.{Act}
 use Rattle.pd_script.specs.declared.act.Act.TheVariants.{Cell as CellAct, Lead as LeadAct, Tick as TickAct, Resign as ResignAct, Take as TakeAct, Tell as TellAct, Hear as HearAct, Read as ReadAct, Campaign as CampaignAct, Save as SaveAct, Raise as RaiseAct, Publish as PublishAct, Probe as ProbeAct, Look as LookAct, Arm as ArmAct, Draw as DrawAct, Ask as AskAct}
 use Rattle.pd_script.specs.declared.act.Line.{Line}
 use Rattle.pd_script.specs.declared.limits.Broken.{Broken}
-use Rattle.pd_script.specs.declared.limits.TheConstants.{MAX_CLIENTS, MAX_DRIVERS, MAX_EVENTS, MAX_STORES}
+use Rattle.pd_script.specs.declared.limits.TheConstants.{MAX_CLIENTS, MAX_DRIVERS, MAX_EVENTS, MAX_LEADS, MAX_STORES}
 use Rattle.pd_script.specs.declared.place.Place.{Place}
 use Rattle.pd_script.specs.declared.place.Place.TheVariants.{Driver, Client, Moment, Count, Saved, Term, Id, Version, Seconds}
-use Rattle.pd_script.specs.declared.refusal.Limited.TheVariants.{Events, Drivers, Clients, Stores}
+use Rattle.pd_script.specs.declared.refusal.Limited.TheVariants.{Events, Drivers, Clients, Stores, Leads}
 use Rattle.pd_script.specs.declared.refusal.ScriptRefusal.{ScriptRefusal}
 use Rattle.pd_script.specs.declared.refusal.ScriptRefusal.TheVariants.{Fault, Limit}
 use Rattle.pd_script.specs.declared.script.Mode.{Mode}
 use Rattle.pd_script.specs.declared.script.Script.{Script}
-use Rattle.pd_script.specs.declared.verb.Event.{Event}
-use Rattle.pd_script.specs.declared.verb.Event.TheVariants.{Step, Ask}
-use Rattle.pd_script.specs.declared.verb.Numbered.{Numbered}
+use Rattle.pd_script.specs.declared.event.Event.{Event}
+use Rattle.pd_script.specs.declared.event.Event.TheVariants.{Step, Ask}
+use Rattle.pd_script.specs.declared.event.Numbered.{Numbered}
 use Rattle.pd_script.specs.declared.verb.Numbers.{Numbers}
 use Rattle.pd_script.specs.declared.verb.Places.{Places}
 use Rattle.pd_script.specs.declared.verb.Places.TheVariants.{One, Two, Three}
@@ -101,6 +102,8 @@ abbrev pub asker : ℕ → Request → Actor
 asker driver (Hello store moment address labels) = ByStore store
 asker driver (Alive store moment) = ByStore store
 asker driver (Beat store moment beat) = ByStore store
+asker driver (Rule moment json) = ByDriver driver
+asker driver (Unrule moment group id) = ByDriver driver
 asker driver (BeginTerm term moment) = ByDriver driver
 asker driver Retire = ByDriver driver
 
@@ -154,6 +157,16 @@ stores_from known (e ∷ es) = stores_from (with_stores known (store_of e.event)
 abbrev pub stores_in : List Numbered → ℕ
 stores_in events = length (stores_from [] events)
 
+-- the act begins a lead or ends one: `lead`, or `publish`, the last of its single steps
+abbrev pub is_lead : Act → Bool
+is_lead (LeadAct driver now) = true
+is_lead (PublishAct driver) = true
+is_lead _ = false
+
+-- how many lines do so
+abbrev pub leads_in : List Numbered → ℕ
+leads_in events = count_by (λ e. is_lead (act_of e.event)) events
+
 -- the first limit that the events break
 abbrev pub broken_by : List Numbered → Option Broken
 broken_by events =
@@ -161,6 +174,7 @@ broken_by events =
     else if nat_lt MAX_DRIVERS (greatest driver_of events) then Some (record { what = Drivers; count = greatest driver_of events })
     else if nat_lt MAX_CLIENTS (greatest client_of events) then Some (record { what = Clients; count = greatest client_of events })
     else if nat_lt MAX_STORES (stores_in events) then Some (record { what = Stores; count = stores_in events })
+    else if nat_lt MAX_LEADS (leads_in events) then Some (record { what = Leads; count = leads_in events })
     else None
 
 -- the line of an event

@@ -10,7 +10,7 @@ use Rattle.pd_script.specs.declared.verb.Places.{Places}
 use Rattle.pd_script.specs.declared.verb.Places.TheVariants.{One, Two, Three}
 use Rattle.pd_script.specs.declared.verb.Standing.{Standing}
 use Rattle.pd_script.specs.declared.verb.Standing.TheVariants.{Anywhere, Opening, SingleStep}
-use Rattle.pd_script.specs.declared.verb.StoreVerb.{StoreVerb}
+use Rattle.pd_script.specs.declared.request_verb.RequestVerb.{RequestVerb}
 use Rattle.pd_script.specs.declared.verb.Verb.{Verb}
 use Rattle.pd_script.specs.declared.verb.Verb.TheVariants.{Cell, Lead, Tick, Resign, Take, Tell, Hear, Read, Campaign, Save, Raise, Publish, Probe, Look, Arm, Draw}
 
@@ -55,7 +55,7 @@ is_misplaced mode false Opening = true
 is_misplaced Replay first SingleStep = false
 is_misplaced Run first SingleStep = true
 
--- what a store says is known in `replay` alone: `run` serves no cluster
-abbrev pub known_in : Mode → Option StoreVerb → Option StoreVerb
+-- what asks a cluster is known in `replay` alone: `run` serves none
+abbrev pub known_in : Mode → Option RequestVerb → Option RequestVerb
 known_in Replay verb = verb
 known_in Run verb = None

@@ -1,3 +1,8 @@
+ghost use Rattle.std.specs.Prelude.{◌≡◌, ◌≤◌};
+ghost use Rattle.pd_script.specs.Scripts.{act_by, greatest_in, if_client, if_driver};
+ghost use Rattle.pd_script.specs.Table.{row};
+
+use crate::verb::{Numbers, Verb};
 use pd_types::{Actor, Request};
 
 /// What a line does. Moments are in milliseconds since the epoch.
@@ -46,4 +51,77 @@ pub struct Line {
     pub number: u32,
     pub actor: Option<Actor>,
     pub act: Act,
+}
+
+/// What a line of the oracle does.
+pub fn step_act(verb: Verb, numbers: Numbers) -> Act
+    requires drivers { greatest_in if_driver (row verb).places numbers ≤ 7 }
+    requires clients { greatest_in if_client (row verb).places numbers ≤ 64 }
+    ensures value { result ≡ act_by verb numbers }
+{
+    let Numbers {
+        first,
+        second,
+        third,
+    } = numbers;
+    match verb {
+        Verb::Cell => Act::Cell {
+            saved: first,
+            term: second,
+        },
+        Verb::Lead => Act::Lead {
+            driver: first as u8,
+            now: second,
+        },
+        Verb::Tick => Act::Tick {
+            driver: first as u8,
+            now: second,
+        },
+        Verb::Resign => Act::Resign {
+            driver: first as u8,
+        },
+        Verb::Take => Act::Take {
+            client: first as u8,
+            driver: second as u8,
+            n: third,
+        },
+        Verb::Tell => Act::Tell {
+            client: first as u8,
+            to: second as u8,
+        },
+        Verb::Hear => Act::Hear {
+            client: first as u8,
+        },
+        Verb::Read => Act::Read {
+            driver: first as u8,
+            now: second,
+        },
+        Verb::Campaign => Act::Campaign {
+            driver: first as u8,
+        },
+        Verb::Save => Act::Save {
+            driver: first as u8,
+        },
+        Verb::Raise => Act::Raise {
+            driver: first as u8,
+        },
+        Verb::Publish => Act::Publish {
+            driver: first as u8,
+        },
+        Verb::Probe => Act::Probe {
+            driver: first as u8,
+            now: second,
+        },
+        Verb::Look => Act::Look {
+            client: first as u8,
+            driver: second as u8,
+        },
+        Verb::Arm => Act::Arm {
+            client: first as u8,
+            n: second,
+        },
+        Verb::Draw => Act::Draw {
+            client: first as u8,
+        },
+    }
 }

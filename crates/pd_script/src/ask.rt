@@ -1,4 +1,4 @@
-// The lines by which stores speak to a driver's cluster.
+// The lines that ask a driver's cluster.
 ghost use Rattle.std.specs.Prelude.{◌≡◌, nat_lt, length, IfOk, IfErr, Ok};
 ghost use Rattle.pd_script.specs.Asks.{alive_of, asked_of, beat_of, either_of, greeted, head_of, hello_of, labels_or, region_of, reported, troubled_of};
 ghost use Rattle.pd_script.specs.Refusals.{IsLineRefusal};
@@ -10,12 +10,13 @@ use crate::items::{downs, peers, pending};
 use crate::line::word;
 use crate::place::{Place, read_place};
 use crate::refusal::LineRefusal;
+use crate::request_verb::RequestVerb;
+use crate::rules::{rule, unrule};
 use crate::split::next_word;
-use crate::verb::StoreVerb;
 use pd_types::{Downs, Epoch, Ids, Labels, Region, RegionBeat, Request};
 use std::alloc::Global;
 
-/// What a store asks of a driver's cluster.
+/// What is asked of a driver's cluster.
 #[derive(Debug, Drop, PartialEq)]
 pub struct Asked {
     pub driver: u64,
@@ -256,14 +257,16 @@ fn beat(alloc: Global, rest: &[u8]) -> Result<Asked, LineRefusal>
     Ok(report(head, beat, troubled))
 }
 
-/// What the words behind the first word say.
-pub fn read_asked(alloc: Global, verb: StoreVerb, rest: &[u8]) -> Result<Asked, LineRefusal>
-    ensures ok { IfOk result (λ asked. asked_of verb (words rest.now) ≡ Ok asked) }
-    ensures refused { IfErr result (IsLineRefusal (asked_of verb (words rest.now))) }
+/// What stands behind the first word.
+pub fn read_asked(alloc: Global, verb: RequestVerb, rest: &[u8]) -> Result<Asked, LineRefusal>
+    ensures ok { IfOk result (λ asked. asked_of verb rest.now ≡ Ok asked) }
+    ensures refused { IfErr result (IsLineRefusal (asked_of verb rest.now)) }
 {
     match verb {
-        StoreVerb::Hello => hello(alloc, rest),
-        StoreVerb::Alive => Ok(alive(rest)?),
-        StoreVerb::Beat => beat(alloc, rest),
+        RequestVerb::Hello => hello(alloc, rest),
+        RequestVerb::Alive => Ok(alive(rest)?),
+        RequestVerb::Beat => beat(alloc, rest),
+        RequestVerb::Rule => rule(alloc, rest),
+        RequestVerb::Unrule => unrule(alloc, rest),
     }
 }

@@ -1,5 +1,5 @@
 // What the definitions give, by themselves.
-ghost use Rattle.std.specs.Prelude.{◌≡◌, ◌⊎◌, ◌-◌, ◌^◌, ℕ, List, [], nat_eq, false};
+ghost use Rattle.std.specs.Prelude.{◌≡◌, ◌⊎◌, ◌-◌, ◌^◌, ℕ, List, [], codes, drop, nat_eq, false};
 ghost use Rattle.std.specs.List.{list_any, All};
 ghost use Rattle.pd_types.specs.declared.oracle.Actor.TheVariants.{Driver, Store};
 ghost use Rattle.pd_types.specs.declared.request.Request.{Request};
@@ -8,7 +8,7 @@ ghost use Rattle.pd_script.specs.Forms.{items_of};
 ghost use Rattle.pd_script.specs.Joining.{joined_items, joined_lines, spaced};
 ghost use Rattle.pd_script.specs.Places.{least, most};
 ghost use Rattle.pd_script.specs.Scripts.{asker};
-ghost use Rattle.pd_script.specs.Words.{pieces_from, raw_lines};
+ghost use Rattle.pd_script.specs.Words.{behind_word, pieces_from, raw_lines, trimmed, words};
 ghost use Rattle.pd_script.specs.declared.place.Place.TheVariants.{Client, Count, Driver, Id, Moment, Saved, Seconds, Term, Version};
 
 /// Nothing is lost where a text is cut: its lines with their line feeds are the text, and no line
@@ -20,6 +20,15 @@ pub fn what_is_cut_is_the_whole()
     ensures pieces { (line : List ℕ) → spaced (pieces_from [] line) ≡ line }
     ensures spaces { (line : List ℕ) → All (λ piece. list_any (λ b. nat_eq b 32) piece ≡ false) (pieces_from [] line) }
     ensures items { (word : List ℕ) → joined_items (items_of word) ≡ word }
+{}
+
+/// What stands behind the first word of a line has its other words; the rest of a line is cut at
+/// its ends alone.
+pub fn a_rest_keeps_its_words()
+    ensures words { (line : List ℕ) → words (behind_word line) ≡ drop 1 (words line) }
+    ensures inside { trimmed (codes "  a  b ") ≡ codes "a  b" }
+    ensures whole { trimmed (codes "ab") ≡ codes "ab" }
+    ensures spaces { trimmed (codes "   ") ≡ [] }
 {}
 
 /// The ranges of numbers: drivers, clients, ids and counts of timestamps begin at 1, all others at

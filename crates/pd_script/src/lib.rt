@@ -2,7 +2,9 @@
 #![tactic(auto)]
 
 mod act;
+mod actor;
 mod ask;
+mod event;
 mod form;
 mod items;
 mod laws;
@@ -11,6 +13,8 @@ mod line;
 mod place;
 mod reading;
 mod refusal;
+mod request_verb;
+mod rules;
 mod script;
 mod split;
 #[cfg(test)]
@@ -18,8 +22,11 @@ mod tests;
 mod verb;
 
 pub use act::{Act, Line};
-pub use laws::{each_place_has_its_range, stores_and_the_driver_ask, what_is_cut_is_the_whole};
-pub use limits::asker;
+pub use actor::asker;
+pub use laws::{
+    a_rest_keeps_its_words, each_place_has_its_range, stores_and_the_driver_ask,
+    what_is_cut_is_the_whole,
+};
 pub use reading::read_script;
 pub use refusal::{Limited, Reason, ScriptRefusal};
 pub use script::{Lines, Mode, Script};

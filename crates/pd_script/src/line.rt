@@ -1,22 +1,25 @@
 // What one line of a text says.
 ghost use Rattle.std.specs.Prelude.{◌≡◌, ◌∷◌, [], IfOk, IfErr, MatchResult, Ok};
-ghost use Rattle.pd_script.specs.Asks.{store_verb_of};
-ghost use Rattle.pd_script.specs.Grammar.{by_store_verb, content_of, event_of, has_bad_byte, numbers_of, step_of};
+ghost use Rattle.pd_script.specs.Asks.{request_verb_of};
+ghost use Rattle.pd_script.specs.Grammar.{by_request_verb, content_of, event_of, has_bad_byte, numbers_of, step_of};
 ghost use Rattle.pd_script.specs.Refusals.{IsLineRefusal};
-ghost use Rattle.pd_script.specs.Words.{words};
+ghost use Rattle.pd_script.specs.Words.{behind_word, words};
 ghost use Rattle.pd_script.specs.Table.{is_misplaced};
 
 use crate::ask::{Asked, read_asked};
+use crate::event::Event;
 use crate::place::{Place, read_place};
 use crate::refusal::LineRefusal;
+use crate::request_verb::request_verb_of;
 use crate::split::next_word;
-use crate::verb::{Event, Numbers, Places, Standing, Verb, store_verb_of, verb_of};
+use crate::verb::{Numbers, Places, Standing, Verb, verb_of};
 use crate::{Mode, Reason};
 use std::alloc::Global;
 
 /// The next word, which may not be missing.
 pub fn word(rest: &[u8]) -> Result<(&[u8], &[u8]), Reason>
     ensures value { MatchResult result (λ p. words rest.now ≡ p.0.now ∷ words p.1.now) (λ reason. (words rest.now ≡ []) × (reason ≡ Reason.MissingWord)) }
+    ensures behind { IfOk result (λ p. p.1.now ≡ behind_word rest.now) }
 {
     match next_word(rest) {
         Some(parts) => Ok(parts),
@@ -106,10 +109,10 @@ fn step(mode: Mode, first: bool, verb: Verb, rest: &[u8]) -> Result<Event, Reaso
 
 // What a line that isn't the oracle's says.
 fn ask(alloc: Global, name: &[u8], rest: &[u8]) -> Result<Event, LineRefusal>
-    ensures ok { IfOk result (λ event. by_store_verb (words rest.now) (store_verb_of name.now) ≡ Ok event) }
-    ensures refused { IfErr result (IsLineRefusal (by_store_verb (words rest.now) (store_verb_of name.now))) }
+    ensures ok { IfOk result (λ event. by_request_verb rest.now (request_verb_of name.now) ≡ Ok event) }
+    ensures refused { IfErr result (IsLineRefusal (by_request_verb rest.now (request_verb_of name.now))) }
 {
-    let Some(verb) = store_verb_of(name) else {
+    let Some(verb) = request_verb_of(name) else {
         return Err(LineRefusal::Fault(Reason::UnknownWord));
     };
     let Asked { driver, request } = read_asked(alloc, verb, rest)?;
@@ -124,8 +127,8 @@ fn event(
     name: &[u8],
     rest: &[u8],
 ) -> Result<Event, LineRefusal>
-    ensures ok { IfOk result (λ event. event_of mode first (name.now ∷ words rest.now) ≡ Ok event) }
-    ensures refused { IfErr result (IsLineRefusal (event_of mode first (name.now ∷ words rest.now))) }
+    ensures ok { IfOk result (λ event. event_of mode first (name.now ∷ words rest.now) rest.now ≡ Ok event) }
+    ensures refused { IfErr result (IsLineRefusal (event_of mode first (name.now ∷ words rest.now) rest.now)) }
 {
     match verb_of(name) {
         Some(verb) => Ok(step(mode, first, verb, rest)?),

@@ -5,9 +5,9 @@ ghost use Rattle.pd_script.specs.Lawful.{IsLawfulScript};
 ghost use Rattle.pd_script.specs.Refusals.{IsFault, IsRefusal, kept};
 ghost use Rattle.pd_script.specs.Scripts.{client_of, driver_of, line_of, script_of};
 
-use crate::limits::{Broken, clients, drivers, first_broken, line};
+use crate::event::{Event, Numbered, line};
+use crate::limits::{Broken, clients, drivers, first_broken};
 use crate::line::content;
-use crate::verb::{Event, Numbered};
 use crate::{Line, Lines, Mode, Reason, Script, ScriptRefusal};
 use pd_types::NoMemory;
 use std::alloc::Global;

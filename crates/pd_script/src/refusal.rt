@@ -37,6 +37,8 @@ pub enum Limited {
     Drivers,
     Clients,
     Stores,
+    /// Lines `lead` and `publish`.
+    Leads,
 }
 
 /// Why a text is no script.

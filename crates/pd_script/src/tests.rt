@@ -1,6 +1,6 @@
 // Lines with the reason for which they are at fault, 0 where they are events.
 use crate::{Act, Limited, Mode, Reason, ScriptRefusal, read_script};
-use pd_types::Actor;
+use pd_types::{Actor, Request};
 use std::alloc::Global;
 use std::process::Abort;
 use std::test::Fail;
@@ -152,6 +152,31 @@ const REPLAY: &str = "\
 8 beat 1 1 1 7 - - 1 1 11 - pending=0 down=1:1
 8 beat 1 1 1 7 - - 1 1 11 - down=1:1 down=1:1
 8 beat 1 1 1 7 - - 1 1 11 - x=1
+0 rule 1 1000 {}
+0 rule 7 70368744177663 {\"group_id\":\"pd\",\"id\":\"x\"}
+0 rule 1 1000 not a rule at all
+0   rule  1  1000   { \"a\":  1 }  
+4 rule
+4 rule 1
+4 rule 1 1000
+4 rule x y
+7 rule 0 x {}
+6 rule x 70368744177664 {}
+7 rule 1 70368744177664 {}
+6 rule 1 -1 {}
+0 unrule 1 1000 pd default
+0 unrule 7 0 ! ~
+0 unrule 1 1000 gggggggggggggggggggggggggggggggggggggggggggggggggggggggggggggggg i
+0 unrule 1 1000 g iiiiiiiiiiiiiiiiiiiiiiiiiiiiiiiiiiiiiiiiiiiiiiiiiiiiiiiiiiiiiiii
+8 unrule 1 1000 ggggggggggggggggggggggggggggggggggggggggggggggggggggggggggggggggg i
+8 unrule 1 1000 g iiiiiiiiiiiiiiiiiiiiiiiiiiiiiiiiiiiiiiiiiiiiiiiiiiiiiiiiiiiiiiiii
+7 unrule 0 x pd default
+6 unrule x 0 pd default
+7 unrule 1 70368744177664 pd default
+4 unrule 1 1000 pd
+4 unrule x
+5 unrule 1 1000 pd default x
+5 unrule x x x x x
 3 run
 3 Lead 1 1
 3 lea 1 1
@@ -179,6 +204,10 @@ const RUN: &str = "\
 3 hello 1 1 1 a
 3 alive
 3 beat x
+3 rule
+3 rule 1 1000 {}
+3 unrule 1
+3 unrule 1 1000 pd default
 ";
 
 // The number of the reason of the first line, 0 where the text is a script.
@@ -298,5 +327,100 @@ fn a_script_has_its_lines_and_the_greatest_numbers(rt: HostRuntime) -> Result<()
             }
         }
     }
+    Ok(())
+}
+
+// A line `rule` whose JSON text has so many bytes, with spaces around and inside it.
+fn rule_line(alloc: Global, count: u64) -> Result<String, Fail> {
+    let mut text = String::new(alloc);
+    text.push_str("rule 1 1000   {  ")?;
+    for _ in 4..count {
+        text.push_str("x")?;
+    }
+    text.push_str("}   \n")?;
+    Ok(text)
+}
+
+#[test]
+fn a_rule_is_the_rest_of_its_line(rt: HostRuntime) -> Result<(), Fail> {
+    let alloc = rt.alloc();
+    for count in [4u64, 5, 4095, 4096] {
+        let text = rule_line(alloc, count)?;
+        assert!(rt; text.len() <= 16_777_216);
+        let script = read_script(alloc, text.as_bytes(), Mode::Replay)?;
+        for line in script.lines.as_slice() {
+            assert_eq!(rt; line.actor, Some(Actor::Driver(1)));
+            match &line.act {
+                Act::Ask {
+                    driver: 1,
+                    request: Request::Rule { moment: 1000, json },
+                } => {
+                    assert_eq!(rt; json.len() as u64, count);
+                    assert!(rt; json.as_slice().starts_with(b"{  "));
+                    assert!(rt; json.as_slice().ends_with(b"}"));
+                }
+                _ => assert!(rt; false, "another act"),
+            }
+        }
+    }
+    let long = ScriptRefusal::Fault {
+        line: 1,
+        reason: Reason::BadWord,
+    };
+    let text = rule_line(alloc, 4097)?;
+    expect(&rt, alloc, text.as_bytes(), long);
+    Ok(())
+}
+
+#[test]
+fn a_rule_is_removed_by_its_group_and_id(rt: HostRuntime) -> Result<(), Fail> {
+    let script = read_script(rt.alloc(), b"unrule 2 7 pd x/1\n", Mode::Replay)?;
+    assert_eq!(rt; (script.drivers, script.lines.len()), (2, 1));
+    for line in script.lines.as_slice() {
+        assert_eq!(rt; line.actor, Some(Actor::Driver(2)));
+        match &line.act {
+            Act::Ask {
+                driver: 2,
+                request: Request::Unrule {
+                    moment: 7,
+                    group,
+                    id,
+                },
+            } => {
+                assert_eq!(rt; group.as_str(), "pd");
+                assert_eq!(rt; id.as_str(), "x/1");
+            }
+            _ => assert!(rt; false, "another act"),
+        }
+    }
+    Ok(())
+}
+
+#[test]
+fn leads_are_tested_behind_stores(rt: HostRuntime) -> Result<(), Fail> {
+    let alloc = rt.alloc();
+    let mut text = String::new(alloc);
+    for _ in 0..512 {
+        text.push_str("lead 1 1\ntick 1 1\npublish 1\nraise 1\n")?;
+    }
+    assert!(rt; text.len() <= 16_777_216);
+    assert!(rt; read_script(alloc, text.as_bytes(), Mode::Replay).is_ok());
+    text.push_str("publish 2\n")?;
+    let leads = |count: u64| ScriptRefusal::Limit {
+        what: Limited::Leads,
+        count,
+    };
+    expect(&rt, alloc, text.as_bytes(), leads(1025));
+    text.push_str("lead 3 1\n")?;
+    expect(&rt, alloc, text.as_bytes(), leads(1026));
+    for store in 1..258u64 {
+        let line = format!(in alloc; "alive {store} 1 1\n")?;
+        text.push_str(line.as_str())?;
+    }
+    let stores = ScriptRefusal::Limit {
+        what: Limited::Stores,
+        count: 257,
+    };
+    expect(&rt, alloc, text.as_bytes(), stores);
     Ok(())
 }

@@ -1,11 +1,9 @@
 ghost use Rattle.std.specs.Prelude.{◌≡◌};
 ghost use Rattle.std.specs.List.{find};
 ghost use Rattle.std.specs.Str.{bytes_eq};
-ghost use Rattle.pd_script.specs.Asks.{store_verb_of, store_word};
 ghost use Rattle.pd_script.specs.Table.{row, verb_of};
 
 use crate::place::Place;
-use pd_types::Request;
 
 /// The first words of lines.
 #[derive(Clone, Copy, Debug, PartialEq, Eq)]
@@ -52,63 +50,6 @@ pub struct Numbers {
     pub first: u64,
     pub second: u64,
     pub third: u64,
-}
-
-/// The first words of the lines by which stores speak.
-#[derive(Clone, Copy, Debug, PartialEq, Eq)]
-pub enum StoreVerb {
-    Hello,
-    Alive,
-    Beat,
-}
-
-/// A line that isn't passed over.
-#[derive(Debug, Drop, PartialEq)]
-pub enum Event {
-    /// A line of the oracle: its first word and its numbers, in their ranges.
-    Step { verb: Verb, numbers: Numbers },
-    /// A request of a store to a driver's cluster.
-    Ask { driver: u64, request: Request },
-}
-
-/// An event with the number of its line, counted from 1 over all lines.
-#[derive(Debug, Drop, PartialEq)]
-pub struct Numbered {
-    pub number: u32,
-    pub event: Event,
-}
-
-impl StoreVerb {
-    /// The word itself.
-    pub fn word(self) -> &'static str
-        ensures value { result.now ≡ store_word self }
-    {
-        match self {
-            StoreVerb::Hello => "hello",
-            StoreVerb::Alive => "alive",
-            StoreVerb::Beat => "beat",
-        }
-    }
-}
-
-// The first of these that the word names.
-fn first_named_store(verbs: &[StoreVerb], word: &[u8]) -> Option<StoreVerb>
-    ensures value { result ≡ find (λ verb. bytes_eq word.now (store_word verb)) verbs.now }
-{
-    for verb in verbs {
-        if word == verb.word().as_bytes() {
-            return Some(*verb);
-        }
-    }
-    None
-}
-
-/// The stores' verb that a word names.
-pub fn store_verb_of(word: &[u8]) -> Option<StoreVerb>
-    ensures value { result ≡ store_verb_of word.now }
-{
-    let verbs = [StoreVerb::Hello, StoreVerb::Alive, StoreVerb::Beat];
-    first_named_store(&verbs, word)
 }
 
 impl Verb {

@@ -2,7 +2,7 @@ use Rattle.std.proofs.Common.{◌≤◌, List, ◌++◌, [], ◌∷◌, map, ap,
 use Rattle.std.proofs.lemmas.List.Elements.{All-rest}
 use Rattle.std.specs.Vec.Iter.{into_iter_items}
 use Rattle.pd_script.specs.Scripts.{client_of, driver_of, line_of}
-use Rattle.pd_script.specs.declared.verb.Numbered.{Numbered}
+use Rattle.pd_script.specs.declared.event.Numbered.{Numbered}
 use Rattle.pd_script.proofs.reading.lines_of.Goals as goal
 
 pub loop-numbered-preserved : goal.loop-numbered-preserved

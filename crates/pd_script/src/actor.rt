@@ -1,0 +1,58 @@
+// Who acts in a line.
+ghost use Rattle.std.specs.Prelude.{◌≡◌, ◌≤◌, ℕ, option_to_list};
+ghost use Rattle.pd_script.specs.Scripts.{acting, actor_by, asker, greatest_in, if_client, if_driver, store_in};
+
+use crate::place::Place;
+use crate::verb::{Numbers, Places};
+use pd_types::{Actor, Request};
+
+/// Who asks a request of this driver's cluster: the store that says it, or the driver itself.
+pub fn asker(driver: u8, request: &Request) -> Actor
+    ensures value { result ≡ asker driver request.now }
+{
+    match request {
+        Request::Hello { store, .. } | Request::Alive { store, .. } | Request::Beat { store, .. } =>
+            { Actor::Store(*store) }
+        Request::Rule { .. } | Request::Unrule { .. } => Actor::Driver(driver),
+        Request::Term { .. } | Request::Retire => Actor::Driver(driver),
+    }
+}
+
+// The store that says a request, where one does.
+pub fn speaker(request: &Request) -> Option<u64>
+    ensures value { (driver : ℕ) → option_to_list result ≡ store_in (asker driver request.now) }
+{
+    match request {
+        Request::Hello { store, .. } | Request::Alive { store, .. } | Request::Beat { store, .. } =>
+            { Some(*store) }
+        Request::Rule { .. } | Request::Unrule { .. } => None,
+        Request::Term { .. } | Request::Retire => None,
+    }
+}
+
+// Who acts in a place.
+fn acting(place: Place, n: u64) -> Option<Actor>
+    requires driver { if_driver place n ≤ 7 }
+    requires client { if_client place n ≤ 64 }
+    ensures value { result ≡ acting place n }
+{
+    match place {
+        Place::Driver => Some(Actor::Driver(n as u8)),
+        Place::Client => Some(Actor::Client(n as u8)),
+        Place::Moment | Place::Count | Place::Saved | Place::Term => None,
+        Place::Id | Place::Version | Place::Seconds => None,
+    }
+}
+
+// Who acts in a line of the oracle.
+pub fn step_actor(places: Places, n: Numbers) -> Option<Actor>
+    requires drivers { greatest_in if_driver places n ≤ 7 }
+    requires clients { greatest_in if_client places n ≤ 64 }
+    ensures value { result ≡ actor_by places n }
+{
+    match places {
+        Places::One(p) => acting(p, n.first),
+        Places::Two(p, _) => acting(p, n.first),
+        Places::Three(p, _, _) => acting(p, n.first),
+    }
+}
