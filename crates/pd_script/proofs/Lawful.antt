@@ -1,6 +1,7 @@
 -- The script of a text is lawful.
 use Rattle.std.proofs.Common.{◌≡◌, ◌<◌, ◌≤◌, ℕ, ◌+◌, List, [], ◌∷◌, Bool, true, false, cond, map, get_or, Option, Some, None, refl, sym, ap, subst, ◌∙◌, arith}
-use Rattle.std.specs.Prelude.{Result, Ok, Err}
+use Rattle.std.specs.Prelude.{IfSome, Result, Ok, Err}
+use Rattle.std.specs.Option.{is_some}
 use Rattle.std.specs.List.{AllByRecursion}
 use Rattle.std.proofs.lemmas.List.{length-map}
 use Rattle.std.proofs.lemmas.List.Elements.{All-from_recursion}
@@ -8,13 +9,15 @@ use Rattle.pd_lines.specs.Numeral.{number_of}
 use Rattle.pd_script.specs.Asks.{asked_of, request_verb_of}
 use Rattle.pd_script.specs.Grammar.{AtFault, by_request_verb, with_request, and_event, and_line, and_number, arity, by_verb, content_of, event_of, events_from, events_of, has_bad_byte, is_passed_over, listed, numbers_of, padded, raw_content, read_places, some_event, unless, with_numbers}
 use Rattle.pd_script.specs.Formed.{IsAsked}
-use Rattle.pd_script.specs.Lawful.{AreLawful, IsFormed, IsLawful, IsLawfulScript, IsServed, standing_of}
+use Rattle.pd_script.specs.Lawful.{AreLawful, IsFormed, IsInRange, IsLawful, IsLawfulScript, IsServed, standing_of}
 use Rattle.pd_script.specs.Places.{most, read_place}
-use Rattle.pd_script.specs.Scripts.{act_by, act_of, broken_by, client_of, driver_of, greatest, line_of, script_by, script_of, unless_broken}
+use Rattle.pd_script.specs.Says.{Says, says}
+use Rattle.pd_script.specs.Scripts.{act_by, act_of, broken_by, client_of, driver_of, greatest, greatest_in, if_client, if_driver, line_of, script_by, script_of, unless_broken}
 use Rattle.pd_script.specs.Table.{is_misplaced, known_in, row, verb_of}
 use Rattle.pd_script.specs.Words.{RawLine, behind_word, raw_lines, words}
 use Rattle.pd_script.specs.declared.limits.Broken.{Broken}
 use Rattle.pd_script.specs.declared.place.Place.{Place}
+use Rattle.pd_script.specs.declared.place.Place.TheVariants.{Driver, Client}
 use Rattle.pd_script.specs.declared.refusal.Reason.{Reason}
 use Rattle.pd_script.specs.declared.refusal.Reason.TheVariants.{BadByte, Misplaced, NoNewline, UnknownWord}
 use Rattle.pd_script.specs.declared.refusal.ScriptRefusal.TheVariants.{Fault, Limit}
@@ -33,11 +36,11 @@ use Rattle.pd_script.specs.declared.verb.Numbers.{Numbers}
 use Rattle.pd_script.specs.declared.verb.Places.{Places}
 use Rattle.pd_script.specs.declared.verb.Places.TheVariants.{One, Two, Three}
 use Rattle.pd_script.specs.declared.verb.Verb.{Verb}
-use Rattle.pd_script.specs.declared.verb.Verb.TheVariants.{Cell, Lead, Tick, Resign, Take, Tell, Hear, Read, Campaign, Save, Raise, Publish, Probe, Look, Arm, Draw}
 use Rattle.pd_script.proofs.Formed.{IsFine, asked_ok}
 use Rattle.pd_script.proofs.Greatest.{at_least_one}
 use Rattle.pd_script.proofs.LawfulLines.{AreAbove, are_above, clients_greatest, drivers_greatest, few_speakers, numbered_from, rising_from, same_actors, same_leads}
 use Rattle.pd_script.proofs.Results.{InPlace, in_place, no_fine, same_ok}
+use Rattle.pd_script.proofs.SaysLemmas.{placed_numbers, same_says}
 use Rattle.pd_script.proofs.Unbroken.{all_within}
 
 -- the numbers in their places
@@ -159,46 +162,18 @@ all_read mode number first [] events is = subst (λ (l : List Numbered). AreRead
 all_read mode number first (raw ∷ raws) events is = line_front mode first number (raw_content mode first raw) (events_from mode (number + 1) first raws) (events_from mode (number + 1) false raws) events (raw_may mode first raw)
     (λ es same. all_read mode (number + 1) first raws es same) (λ es same. all_read mode (number + 1) false raws es same) is
 
--- the act of an event that was read
-same_standing : (verb : Verb) (n : Numbers) → standing_of (act_by verb n) ≡ (row verb).standing
-same_standing Cell n = refl
-same_standing Lead n = refl
-same_standing Tick n = refl
-same_standing Resign n = refl
-same_standing Take n = refl
-same_standing Tell n = refl
-same_standing Hear n = refl
-same_standing Read n = refl
-same_standing Campaign n = refl
-same_standing Save n = refl
-same_standing Raise n = refl
-same_standing Publish n = refl
-same_standing Probe n = refl
-same_standing Look n = refl
-same_standing Arm n = refl
-same_standing Draw n = refl
+-- the numbers of an act are in range where its places are, and the drivers and the clients run
+module _ (drivers clients : ℕ) where
+  in_range : (p : Place) (n : ℕ) → InPlace p n → if_driver p n ≤ drivers → if_client p n ≤ clients → IsInRange drivers clients (p, n)
+  in_range Driver n range driver client = record { low = range.low; high = driver }
+  in_range Client n range driver client = record { low = range.low; high = client }
+  in_range _ n range driver client = record { low = range.low; high = range.high }
 
-module _ (drivers clients : ℕ) (n : Numbers) where
-  abbrev Within : Verb → Type 0
-  Within verb = (driver_of (Step verb n) ≤ drivers) × (client_of (Step verb n) ≤ clients)
-
-  lawful_act : (verb : Verb) → InRange (row verb).places n → Within verb → IsLawful drivers clients (act_by verb n)
-  lawful_act Cell range low = (omega (arith, range.0.high), omega (arith, range.1.high))
-  lawful_act Lead range low = (record { pos = omega (arith, range.0.low); low = omega (arith, low.0) }, omega (arith, range.1.high))
-  lawful_act Tick range low = (record { pos = omega (arith, range.0.low); low = omega (arith, low.0) }, omega (arith, range.1.high))
-  lawful_act Resign range low = record { pos = omega (arith, range.low); low = omega (arith, low.0) }
-  lawful_act Take range low = (record { pos = omega (arith, range.0.low); low = omega (arith, low.1) }, record { pos = omega (arith, range.1.low); low = omega (arith, low.0) }, record { some = omega (arith, range.2.low); most = omega (arith, range.2.high) })
-  lawful_act Tell range low = (record { pos = omega (arith, range.0.low); low = omega (arith, low.1) }, record { pos = omega (arith, range.1.low); low = omega (arith, low.1) })
-  lawful_act Hear range low = record { pos = omega (arith, range.low); low = omega (arith, low.1) }
-  lawful_act Read range low = (record { pos = omega (arith, range.0.low); low = omega (arith, low.0) }, omega (arith, range.1.high))
-  lawful_act Campaign range low = record { pos = omega (arith, range.low); low = omega (arith, low.0) }
-  lawful_act Save range low = record { pos = omega (arith, range.low); low = omega (arith, low.0) }
-  lawful_act Raise range low = record { pos = omega (arith, range.low); low = omega (arith, low.0) }
-  lawful_act Publish range low = record { pos = omega (arith, range.low); low = omega (arith, low.0) }
-  lawful_act Probe range low = (record { pos = omega (arith, range.0.low); low = omega (arith, low.0) }, omega (arith, range.1.high))
-  lawful_act Look range low = (record { pos = omega (arith, range.0.low); low = omega (arith, low.1) }, record { pos = omega (arith, range.1.low); low = omega (arith, low.0) })
-  lawful_act Arm range low = (record { pos = omega (arith, range.0.low); low = omega (arith, low.1) }, record { some = omega (arith, range.1.low); most = omega (arith, range.1.high) })
-  lawful_act Draw range low = record { pos = omega (arith, range.low); low = omega (arith, low.1) }
+  all_in_range : (places : Places) (n : Numbers) → InRange places n → greatest_in if_driver places n ≤ drivers → greatest_in if_client places n ≤ clients → AllByRecursion (IsInRange drivers clients) (placed_numbers places n)
+  all_in_range (One p) n range driver client = (in_range p n.first range driver client, tt)
+  all_in_range (Two p q) n range driver client = (in_range p n.first range.0 (omega (arith, driver)) (omega (arith, client)), (in_range q n.second range.1 (omega (arith, driver)) (omega (arith, client)), tt))
+  all_in_range (Three p q r) n range driver client =
+      (in_range p n.first range.0 (omega (arith, driver)) (omega (arith, client)), (in_range q n.second range.1 (omega (arith, driver)) (omega (arith, client)), (in_range r n.third range.2 (omega (arith, driver)) (omega (arith, client)), tt)))
 
 -- an event that was read stands where it may, and its act is lawful
 record IsGood (mode : Mode) (drivers clients : ℕ) (first : Bool) (act : Act) : Type 0 where
@@ -207,51 +182,18 @@ record IsGood (mode : Mode) (drivers clients : ℕ) (first : Bool) (act : Act) :
   formed : IsFormed act
   served : IsServed mode act
 
-served_step : (mode : Mode) (verb : Verb) (n : Numbers) → IsServed mode (act_by verb n)
-served_step Replay verb n = tt
-served_step Run Cell n = tt
-served_step Run Lead n = tt
-served_step Run Tick n = tt
-served_step Run Resign n = tt
-served_step Run Take n = tt
-served_step Run Tell n = tt
-served_step Run Hear n = tt
-served_step Run Read n = tt
-served_step Run Campaign n = tt
-served_step Run Save n = tt
-served_step Run Raise n = tt
-served_step Run Publish n = tt
-served_step Run Probe n = tt
-served_step Run Look n = tt
-served_step Run Arm n = tt
-served_step Run Draw n = tt
-
-formed_step : (verb : Verb) (n : Numbers) → IsFormed (act_by verb n)
-formed_step Cell n = tt
-formed_step Lead n = tt
-formed_step Tick n = tt
-formed_step Resign n = tt
-formed_step Take n = tt
-formed_step Tell n = tt
-formed_step Hear n = tt
-formed_step Read n = tt
-formed_step Campaign n = tt
-formed_step Save n = tt
-formed_step Raise n = tt
-formed_step Publish n = tt
-formed_step Probe n = tt
-formed_step Look n = tt
-formed_step Arm n = tt
-formed_step Draw n = tt
+not_asked : (mode : Mode) (act : Act) → (says act).asked ≡ None → IsServed mode act
+not_asked Replay act none = tt
+not_asked Run act none = ap is_some none
 
 good_event : (mode : Mode) (drivers clients : ℕ) (first : Bool) (e : Event) → IsRead mode first e → driver_of e ≤ drivers → client_of e ≤ clients → IsGood mode drivers clients first (act_of e)
-good_event mode drivers clients first (Step verb numbers) read most others = record {
-  placed = ap (is_misplaced mode first) (same_standing verb numbers) ∙ read.0;
-  lawful = lawful_act drivers clients numbers verb read.1 (most, others);
-  formed = formed_step verb numbers;
-  served = served_step mode verb numbers;
+good_event mode drivers clients first (Step verb numbers) read most others = let same = same_says verb numbers in record {
+  placed = ap (λ (s : Says). is_misplaced mode first s.standing) same ∙ read.0;
+  lawful = subst (λ (s : Says). AllByRecursion (IsInRange drivers clients) s.numbers) (sym same) (all_in_range drivers clients (row verb).places numbers read.1 most others);
+  formed = subst (λ (s : Says). IfSome s.asked IsAsked) (sym same) tt;
+  served = not_asked mode (act_by verb numbers) (ap (λ (s : Says). s.asked) same);
 }
-good_event mode drivers clients first (Ask driver request) read most others = record { placed = refl; lawful = record { pos = read.0; low = most }; formed = read.1; served = subst (λ (m : Mode). IsServed m (AskAct driver request)) (sym read.2) tt }
+good_event mode drivers clients first (Ask driver request) read most others = record { placed = refl; lawful = (record { low = omega (arith, read.0); high = most }, tt); formed = read.1; served = subst (λ (m : Mode). IsServed m (AskAct driver request)) (sym read.2) tt }
 
 -- all lines
 lawful_lines : (mode : Mode) (drivers clients : ℕ) (first : Bool) (events : List Numbered) → AreRead mode first events → greatest driver_of events ≤ drivers → greatest client_of events ≤ clients → AreLawful mode drivers clients first (map line_of events)

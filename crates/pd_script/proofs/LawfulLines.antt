@@ -1,7 +1,7 @@
 -- Of the lines of events: their numbers rise, their actors are those of their acts, the greatest drivers and clients are named,
 -- and how many stores speak.
 use Rattle.std.proofs.Common.{◌≡◌, ◌⊎◌, inl, inr, ◌<◌, ◌≤◌, ℕ, zero, suc, ◌+◌, max, List, [], ◌∷◌, ◌++◌, map, Bool, true, false, cond, nat_lt, nat_le, All, Contains, Ordering, Less, Equal, Greater, Option, Some, None, refl, ap, sym, subst, ◌∙◌, arith}
-use Rattle.std.specs.Prelude.{AllPairs, Result, Ok, Err, eqb}
+use Rattle.std.specs.Prelude.{AllPairs, Result, Ok, Err, eqb, option_to_list}
 use Rattle.std.specs.BTreeSet.{insert_key}
 use Rattle.std.specs.List.{AllByRecursion, count_by, flat_map}
 use Rattle.std.specs.Ordering.{match_ordering, nat_cmp}
@@ -13,21 +13,26 @@ use Rattle.pd_script.specs.Grammar.{AtFault, and_event, and_line, events_from, r
 use Rattle.pd_script.specs.Lawful.{AreAtMost, IsGreatest, actor_in, clients_named, drivers_named, speaking}
 use Rattle.pd_types.specs.declared.oracle.Actor.{Actor}
 use Rattle.pd_types.specs.declared.oracle.Actor.TheVariants.{Driver as ByDriver, Client as ByClient, Store as ByStore}
-use Rattle.pd_script.specs.Scripts.{act_by, act_of, actor_by, actor_of, client_of, driver_of, greatest, is_lead, leads_in, line_of, asker, store_in, store_of, stores_from, stores_in, with_stores}
+use Rattle.pd_script.specs.Scripts.{act_by, act_of, acting, actor_by, actor_of, client_of, driver_of, greatest, greatest_in, if_client, if_driver, is_lead, leads_in, line_of, asker, store_in, store_of, stores_from, stores_in, with_stores}
+use Rattle.pd_script.specs.Says.{Says, named_client, named_driver}
 use Rattle.pd_script.specs.Table.{row}
 use Rattle.pd_script.specs.Words.{RawLine}
 use Rattle.pd_script.specs.declared.act.Act.{Act}
 use Rattle.pd_script.specs.declared.act.Line.{Line}
+use Rattle.pd_script.specs.declared.place.Place.{Place}
+use Rattle.pd_script.specs.declared.place.Place.TheVariants.{Driver, Client}
 use Rattle.pd_script.specs.declared.refusal.Reason.{Reason}
 use Rattle.pd_script.specs.declared.script.Mode.{Mode}
 use Rattle.pd_script.specs.declared.event.Event.{Event}
 use Rattle.pd_script.specs.declared.event.Event.TheVariants.{Step, Ask}
 use Rattle.pd_script.specs.declared.event.Numbered.{Numbered}
 use Rattle.pd_script.specs.declared.verb.Numbers.{Numbers}
+use Rattle.pd_script.specs.declared.verb.Places.{Places}
+use Rattle.pd_script.specs.declared.verb.Places.TheVariants.{One, Two, Three}
 use Rattle.pd_script.specs.declared.verb.Verb.{Verb}
-use Rattle.pd_script.specs.declared.verb.Verb.TheVariants.{Cell, Lead, Tick, Resign, Take, Tell, Hear, Read, Campaign, Save, Raise, Publish, Probe, Look, Arm, Draw}
 use Rattle.pd_script.proofs.Greatest.{at_least_one}
 use Rattle.pd_script.proofs.Results.{no_fine, same_ok}
+use Rattle.pd_script.proofs.SaysLemmas.{placed_numbers, same_says}
 
 -- each event's number is above those before it, the first at least this one
 abbrev pub AreAbove : ℕ → List Numbered → Type 0
@@ -65,27 +70,8 @@ rising_from number [] above = λ i j d less low. absurd (omega arith)
 rising_from number (e ∷ es) above = AllPairs-cons (λ (one later : Line). one.number < later.number) (line_of e) (map line_of es)
     (All-from_recursion (λ (line : Line). e.number < line.number) (map line_of es) (each_above e.number (e.number + 1) es (omega arith) above.1)) (rising_from (e.number + 1) es above.1)
 
--- who acts
-step_actor : (verb : Verb) (n : Numbers) → actor_by (row verb).places n ≡ actor_in (act_by verb n)
-step_actor Cell n = refl
-step_actor Lead n = refl
-step_actor Tick n = refl
-step_actor Resign n = refl
-step_actor Take n = refl
-step_actor Tell n = refl
-step_actor Hear n = refl
-step_actor Read n = refl
-step_actor Campaign n = refl
-step_actor Save n = refl
-step_actor Raise n = refl
-step_actor Publish n = refl
-step_actor Probe n = refl
-step_actor Look n = refl
-step_actor Arm n = refl
-step_actor Draw n = refl
-
 same_actor : (e : Event) → actor_of e ≡ actor_in (act_of e)
-same_actor (Step verb numbers) = step_actor verb numbers
+same_actor (Step verb numbers) = ap (λ (s : Says). s.actor) (sym (same_says verb numbers))
 same_actor (Ask driver request) = refl
 
 pub same_actors : (events : List Numbered) → All (λ line. line.actor ≡ actor_in line.act) (map line_of events)
@@ -96,68 +82,67 @@ record IsMost (numbers : List ℕ) (n : ℕ) : Type 0 where
   above : All (λ m. m ≤ n) numbers
   named : (n ≡ 0) ⊎ Contains numbers n
 
-no_one : (n : ℕ) → n ≡ 0 → IsMost [] n
-no_one n is = record { above = All-nil (λ m. m ≤ n); named = inl is }
+all_lower : (n m : ℕ) (numbers : List ℕ) → n ≤ m → All (λ k. k ≤ n) numbers → All (λ k. k ≤ m) numbers
+all_lower n m numbers low all = λ k d within. omega (arith, all k d within)
 
-only_one : (m n : ℕ) → m ≡ n → IsMost (m ∷ []) n
-only_one m n is = record { above = All-cons (λ k. k ≤ n) m [] (omega (arith, is)) (All-nil (λ k. k ≤ n)); named = inr (0, omega arith, is) }
+none_is : IsMost [] 0
+none_is = record { above = All-nil (λ m. m ≤ 0); named = inl refl }
 
-both_of : (a b n : ℕ) → n ≡ max a b → IsMost (a ∷ b ∷ []) n
-both_of a b n is = record {
-  above = All-cons (λ k. k ≤ n) a (b ∷ []) (omega (arith, is)) (All-cons (λ k. k ≤ n) b [] (omega (arith, is)) (All-nil (λ k. k ≤ n)));
+only_one : (n : ℕ) → IsMost (n ∷ []) n
+only_one n = record { above = All-cons (λ k. k ≤ n) n [] (omega arith) (All-nil (λ k. k ≤ n)); named = inr (0, omega arith, refl) }
+
+more_most : (a b n : ℕ) (here behind : List ℕ) → n ≡ max a b → IsMost here a → IsMost behind b → IsMost (here ++ behind) n
+more_most a b n here behind is one rest = record {
+  above = All-append (λ m. m ≤ n) here behind (all_lower a n here (omega (arith, is)) one.above) (all_lower b n behind (omega (arith, is)) rest.above);
   named = cases (nat_le a b) refl;
 }
   where
-    cases : (t : Bool) → nat_le a b ≡ t → (n ≡ 0) ⊎ Contains (a ∷ b ∷ []) n
-    cases true low = inr (1, omega arith, grind (arith, nat_tests, low, is))
-    cases false low = inr (0, omega arith, grind (arith, nat_tests, low, is))
+    of_rest : n ≡ b → (b ≡ 0) ⊎ Contains behind b → (n ≡ 0) ⊎ Contains (here ++ behind) n
+    of_rest same (inl zero_is) = inl (same ∙ zero_is)
+    of_rest same (inr has) = inr (subst (λ (k : ℕ). Contains (here ++ behind) k) (sym same) (Contains-append_right here behind b has))
+
+    of_here : n ≡ a → (a ≡ 0) ⊎ Contains here a → (n ≡ 0) ⊎ Contains (here ++ behind) n
+    of_here same (inl zero_is) = inl (same ∙ zero_is)
+    of_here same (inr has) = inr (subst (λ (k : ℕ). Contains (here ++ behind) k) (sym same) (Contains-append_left here behind a has))
+
+    cases : (t : Bool) → nat_le a b ≡ t → (n ≡ 0) ⊎ Contains (here ++ behind) n
+    cases true low = of_rest (grind (arith, nat_tests, low, is)) rest.named
+    cases false low = of_here (grind (arith, nat_tests, low, is)) one.named
+
+driver_most : (p : Place) (n : ℕ) → IsMost (named_driver (p, n)) (if_driver p n)
+driver_most Driver n = only_one n
+driver_most _ n = none_is
+
+client_most : (p : Place) (n : ℕ) → IsMost (named_client (p, n)) (if_client p n)
+client_most Client n = only_one n
+client_most _ n = none_is
+
+module _ (named : Place × ℕ → List ℕ) (at : Place → ℕ → ℕ) (most : (p : Place) (n : ℕ) → IsMost (named (p, n)) (at p n)) where
+  most_one : (p : Place) (n : ℕ) → IsMost (flat_map named ((p, n) ∷ [])) (at p n)
+  most_one p n = more_most (at p n) 0 _ (named (p, n)) [] (omega arith) (most p n) none_is
+
+  most_two : (p q : Place) (n m : ℕ) → IsMost (flat_map named ((p, n) ∷ (q, m) ∷ [])) (max (at p n) (at q m))
+  most_two p q n m = more_most (at p n) (at q m) _ (named (p, n)) (named (q, m) ++ []) refl (most p n) (most_one q m)
+
+  most_in : (places : Places) (n : Numbers) → IsMost (flat_map named (placed_numbers places n)) (greatest_in at places n)
+  most_in (One p) n = most_one p n.first
+  most_in (Two p q) n = most_two p q n.first n.second
+  most_in (Three p q r) n =
+      more_most (at p n.first) (max (at q n.second) (at r n.third)) _ (named (p, n.first)) (named (q, n.second) ++ (named (r, n.third) ++ [])) (omega arith) (most p n.first) (most_two q r n.second n.third)
 
 step_drivers : (verb : Verb) (n : Numbers) → IsMost (drivers_named (act_by verb n)) (driver_of (Step verb n))
-step_drivers Cell n = no_one _ (omega arith)
-step_drivers Lead n = only_one n.first _ (omega arith)
-step_drivers Tick n = only_one n.first _ (omega arith)
-step_drivers Resign n = only_one n.first _ refl
-step_drivers Take n = only_one n.second _ (omega arith)
-step_drivers Tell n = no_one _ (omega arith)
-step_drivers Hear n = no_one _ refl
-step_drivers Read n = only_one n.first _ (omega arith)
-step_drivers Campaign n = only_one n.first _ refl
-step_drivers Save n = only_one n.first _ refl
-step_drivers Raise n = only_one n.first _ refl
-step_drivers Publish n = only_one n.first _ refl
-step_drivers Probe n = only_one n.first _ (omega arith)
-step_drivers Look n = only_one n.second _ (omega arith)
-step_drivers Arm n = no_one _ (omega arith)
-step_drivers Draw n = no_one _ refl
+step_drivers verb n = subst (λ (s : Says). IsMost (flat_map named_driver s.numbers) (driver_of (Step verb n))) (sym (same_says verb n)) (most_in named_driver if_driver driver_most (row verb).places n)
 
 step_clients : (verb : Verb) (n : Numbers) → IsMost (clients_named (act_by verb n)) (client_of (Step verb n))
-step_clients Cell n = no_one _ (omega arith)
-step_clients Lead n = no_one _ (omega arith)
-step_clients Tick n = no_one _ (omega arith)
-step_clients Resign n = no_one _ refl
-step_clients Take n = only_one n.first _ (omega arith)
-step_clients Tell n = both_of n.first n.second _ refl
-step_clients Hear n = only_one n.first _ refl
-step_clients Read n = no_one _ (omega arith)
-step_clients Campaign n = no_one _ refl
-step_clients Save n = no_one _ refl
-step_clients Raise n = no_one _ refl
-step_clients Publish n = no_one _ refl
-step_clients Probe n = no_one _ (omega arith)
-step_clients Look n = only_one n.first _ (omega arith)
-step_clients Arm n = only_one n.first _ (omega arith)
-step_clients Draw n = only_one n.first _ refl
+step_clients verb n = subst (λ (s : Says). IsMost (flat_map named_client s.numbers) (client_of (Step verb n))) (sym (same_says verb n)) (most_in named_client if_client client_most (row verb).places n)
 
 event_drivers : (e : Event) → IsMost (drivers_named (act_of e)) (driver_of e)
 event_drivers (Step verb numbers) = step_drivers verb numbers
-event_drivers (Ask driver request) = only_one driver driver refl
+event_drivers (Ask driver request) = only_one driver
 
 event_clients : (e : Event) → IsMost (clients_named (act_of e)) (client_of e)
 event_clients (Step verb numbers) = step_clients verb numbers
-event_clients (Ask driver request) = no_one 0 refl
-
-all_lower : (n m : ℕ) (numbers : List ℕ) → n ≤ m → All (λ k. k ≤ n) numbers → All (λ k. k ≤ m) numbers
-all_lower n m numbers low all = λ k d within. omega (arith, all k d within)
+event_clients (Ask driver request) = none_is
 
 more_named : (a b : ℕ) (here behind : List ℕ) → IsMost here a → IsGreatest behind b → 1 ≤ b → IsGreatest (here ++ behind) (max a b)
 more_named a b here behind most rest one = record {
@@ -229,28 +214,24 @@ all_stays : (known : List ℕ) (events : List Numbered) (y : ℕ) → Contains k
 all_stays known [] y has = has
 all_stays known (e ∷ es) y has = all_stays (with_stores known (store_of e.event)) es y (with_stays known (store_of e.event) y has)
 
-step_silent : (verb : Verb) (n : Numbers) → speaking (act_by verb n) ≡ []
-step_silent Cell n = refl
-step_silent Lead n = refl
-step_silent Tick n = refl
-step_silent Resign n = refl
-step_silent Take n = refl
-step_silent Tell n = refl
-step_silent Hear n = refl
-step_silent Read n = refl
-step_silent Campaign n = refl
-step_silent Save n = refl
-step_silent Raise n = refl
-step_silent Publish n = refl
-step_silent Probe n = refl
-step_silent Look n = refl
-step_silent Arm n = refl
-step_silent Draw n = refl
-
-asker_has : (known : List ℕ) (actor : Actor) → AllByRecursion (Contains (with_stores known (store_in actor))) (store_in actor)
+asker_has : (known : List ℕ) (actor : Actor) → AllByRecursion (Contains (with_stores known (store_in actor))) (store_in actor ++ [])
 asker_has known (ByDriver driver) = tt
 asker_has known (ByClient client) = tt
 asker_has known (ByStore store) = (inserted store known, tt)
+
+-- no store acts in a line of the oracle
+acting_silent : (p : Place) (n : ℕ) → flat_map store_in (option_to_list (acting p n)) ≡ []
+acting_silent Driver n = refl
+acting_silent Client n = refl
+acting_silent _ n = refl
+
+places_silent : (places : Places) (n : Numbers) → flat_map store_in (option_to_list (actor_by places n)) ≡ []
+places_silent (One p) n = acting_silent p n.first
+places_silent (Two p q) n = acting_silent p n.first
+places_silent (Three p q r) n = acting_silent p n.first
+
+step_silent : (verb : Verb) (n : Numbers) → speaking (act_by verb n) ≡ []
+step_silent verb n = ap (λ (s : Says). flat_map store_in (option_to_list s.actor)) (same_says verb n) ∙ places_silent (row verb).places n
 
 event_has : (known : List ℕ) (e : Event) → AllByRecursion (Contains (with_stores known (store_of e))) (speaking (act_of e))
 event_has known (Step verb numbers) = subst (λ (l : List ℕ). AllByRecursion (Contains known) l) (sym (step_silent verb numbers)) tt

@@ -8,4 +8,5 @@ pub mod Lawful
 pub mod LawfulLines
 pub mod Readings
 pub mod Results
+pub mod SaysLemmas
 pub mod Unbroken

@@ -8,6 +8,7 @@ pub mod Numbering
 pub mod Places
 pub mod Refusals
 pub mod RuleLines
+pub mod Says
 pub mod Scripts
 pub mod Table
 pub mod Words

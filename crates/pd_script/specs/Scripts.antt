@@ -15,7 +15,7 @@ use Rattle.pd_script.specs.declared.act.Line.{Line}
 use Rattle.pd_script.specs.declared.limits.Broken.{Broken}
 use Rattle.pd_script.specs.declared.limits.TheConstants.{MAX_CLIENTS, MAX_DRIVERS, MAX_EVENTS, MAX_LEADS, MAX_STORES}
 use Rattle.pd_script.specs.declared.place.Place.{Place}
-use Rattle.pd_script.specs.declared.place.Place.TheVariants.{Driver, Client, Moment, Count, Saved, Term, Id, Version, Seconds}
+use Rattle.pd_script.specs.declared.place.Place.TheVariants.{Driver, Client}
 use Rattle.pd_script.specs.declared.refusal.Limited.TheVariants.{Events, Drivers, Clients, Stores, Leads}
 use Rattle.pd_script.specs.declared.refusal.ScriptRefusal.{ScriptRefusal}
 use Rattle.pd_script.specs.declared.refusal.ScriptRefusal.TheVariants.{Fault, Limit}
@@ -53,13 +53,7 @@ act_by Draw n = DrawAct n.first
 abbrev pub acting : Place → ℕ → Option Actor
 acting Driver n = Some (ByDriver n)
 acting Client n = Some (ByClient n)
-acting Moment n = None
-acting Count n = None
-acting Saved n = None
-acting Term n = None
-acting Id n = None
-acting Version n = None
-acting Seconds n = None
+acting _ n = None
 
 -- who acts: the driver or the client that stands first
 abbrev pub actor_by : Places → Numbers → Option Actor
@@ -70,26 +64,12 @@ actor_by (Three p q r) n = acting p n.first
 -- the number, where the place is a driver's, else 0
 abbrev pub if_driver : Place → ℕ → ℕ
 if_driver Driver n = n
-if_driver Client n = 0
-if_driver Moment n = 0
-if_driver Count n = 0
-if_driver Saved n = 0
-if_driver Term n = 0
-if_driver Id n = 0
-if_driver Version n = 0
-if_driver Seconds n = 0
+if_driver _ n = 0
 
 -- the number, where the place is a client's, else 0
 abbrev pub if_client : Place → ℕ → ℕ
-if_client Driver n = 0
 if_client Client n = n
-if_client Moment n = 0
-if_client Count n = 0
-if_client Saved n = 0
-if_client Term n = 0
-if_client Id n = 0
-if_client Version n = 0
-if_client Seconds n = 0
+if_client _ n = 0
 
 -- the greatest number that stands in the places of one kind
 abbrev pub greatest_in : (Place → ℕ → ℕ) → Places → Numbers → ℕ

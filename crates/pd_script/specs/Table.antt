@@ -11,6 +11,7 @@ use Rattle.pd_script.specs.declared.verb.Places.TheVariants.{One, Two, Three}
 use Rattle.pd_script.specs.declared.verb.Standing.{Standing}
 use Rattle.pd_script.specs.declared.verb.Standing.TheVariants.{Anywhere, Opening, SingleStep}
 use Rattle.pd_script.specs.declared.request_verb.RequestVerb.{RequestVerb}
+use Rattle.pd_script.specs.declared.verb.TheConstants.{VERBS}
 use Rattle.pd_script.specs.declared.verb.Verb.{Verb}
 use Rattle.pd_script.specs.declared.verb.Verb.TheVariants.{Cell, Lead, Tick, Resign, Take, Tell, Hear, Read, Campaign, Save, Raise, Publish, Probe, Look, Arm, Draw}
 
@@ -39,13 +40,9 @@ row Look = record { name = codes "look"; places = Two Client Driver; standing = 
 row Arm = record { name = codes "arm"; places = Two Client Count; standing = SingleStep }
 row Draw = record { name = codes "draw"; places = One Client; standing = SingleStep }
 
--- all first words
-abbrev pub verbs : List Verb
-verbs = Cell ∷ Lead ∷ Tick ∷ Resign ∷ Take ∷ Tell ∷ Hear ∷ Read ∷ Campaign ∷ Save ∷ Raise ∷ Publish ∷ Probe ∷ Look ∷ Arm ∷ Draw ∷ []
-
--- the row that a word names
+-- the one of all first words that a word names
 abbrev pub verb_of : List ℕ → Option Verb
-verb_of word = find (λ verb. bytes_eq word (row verb).name) verbs
+verb_of word = find (λ verb. bytes_eq word (row verb).name) VERBS
 
 -- the line may not stand here: a `cell` line behind another event, a single step in `run`
 abbrev pub is_misplaced : Mode → Bool → Standing → Bool

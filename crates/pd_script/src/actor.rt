@@ -39,8 +39,7 @@ fn acting(place: Place, n: u64) -> Option<Actor>
     match place {
         Place::Driver => Some(Actor::Driver(n as u8)),
         Place::Client => Some(Actor::Client(n as u8)),
-        Place::Moment | Place::Count | Place::Saved | Place::Term => None,
-        Place::Id | Place::Version | Place::Seconds => None,
+        _ => None,
     }
 }
 

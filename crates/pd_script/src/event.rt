@@ -30,8 +30,7 @@ fn if_driver(place: Place, n: u64) -> u64
 {
     match place {
         Place::Driver => n,
-        Place::Client | Place::Moment | Place::Count | Place::Saved | Place::Term => 0,
-        Place::Id | Place::Version | Place::Seconds => 0,
+        _ => 0,
     }
 }
 
@@ -40,8 +39,7 @@ fn if_client(place: Place, n: u64) -> u64
 {
     match place {
         Place::Client => n,
-        Place::Driver | Place::Moment | Place::Count | Place::Saved | Place::Term => 0,
-        Place::Id | Place::Version | Place::Seconds => 0,
+        _ => 0,
     }
 }
 
@@ -77,7 +75,7 @@ impl Event {
         ensures value { result ≡ driver_of self.now }
     {
         match self {
-            Event::Step { verb, numbers } => driver_in(verb.places(), *numbers),
+            Event::Step { verb, numbers } => driver_in(verb.row().places, *numbers),
             Event::Ask { driver, .. } => *driver,
         }
     }
@@ -87,7 +85,7 @@ impl Event {
         ensures value { result ≡ client_of self.now }
     {
         match self {
-            Event::Step { verb, numbers } => client_in(verb.places(), *numbers),
+            Event::Step { verb, numbers } => client_in(verb.row().places, *numbers),
             Event::Ask { .. } => 0,
         }
     }
@@ -135,7 +133,7 @@ fn actor(event: &Event) -> Option<Actor>
     ensures value { result ≡ actor_of event.now }
 {
     match event {
-        Event::Step { verb, numbers } => step_actor(verb.places(), *numbers),
+        Event::Step { verb, numbers } => step_actor(verb.row().places, *numbers),
         Event::Ask { driver, request } => Some(asker(*driver as u8, request)),
     }
 }

@@ -100,10 +100,11 @@ fn misplaced(mode: Mode, first: bool, standing: Standing) -> bool
 fn step(mode: Mode, first: bool, verb: Verb, rest: &[u8]) -> Result<Event, Reason>
     ensures value { result ≡ step_of mode first verb (words rest.now) }
 {
-    if misplaced(mode, first, verb.standing()) {
+    let row = verb.row();
+    if misplaced(mode, first, row.standing) {
         return Err(Reason::Misplaced);
     }
-    let numbers = numbers(verb.places(), rest)?;
+    let numbers = numbers(row.places, rest)?;
     Ok(Event::Step { verb, numbers })
 }
 

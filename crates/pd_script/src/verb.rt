@@ -4,6 +4,9 @@ ghost use Rattle.std.specs.Str.{bytes_eq};
 ghost use Rattle.pd_script.specs.Table.{row, verb_of};
 
 use crate::place::Place;
+use crate::place::Place::{Client, Count, Driver, Moment, Saved, Term};
+use Places::{One, Three, Two};
+use Standing::{Anywhere, Opening, SingleStep};
 
 /// The first words of lines.
 #[derive(Clone, Copy, Debug, PartialEq, Eq)]
@@ -52,72 +55,73 @@ pub struct Numbers {
     pub third: u64,
 }
 
-impl Verb {
+/// What is said of a line by its first word.
+#[derive(Clone, Copy, Debug, PartialEq, Eq)]
+pub struct Row {
     /// The word itself.
-    pub fn name(self) -> &'static str
-        ensures value { result.now ≡ (row self).name }
-    {
-        match self {
-            Verb::Cell => "cell",
-            Verb::Lead => "lead",
-            Verb::Tick => "tick",
-            Verb::Resign => "resign",
-            Verb::Take => "take",
-            Verb::Tell => "tell",
-            Verb::Hear => "hear",
-            Verb::Read => "read",
-            Verb::Campaign => "campaign",
-            Verb::Save => "save",
-            Verb::Raise => "raise",
-            Verb::Publish => "publish",
-            Verb::Probe => "probe",
-            Verb::Look => "look",
-            Verb::Arm => "arm",
-            Verb::Draw => "draw",
-        }
-    }
-
+    pub name: &'static str,
     /// What stands behind it.
-    pub fn places(self) -> Places
-        ensures value { result ≡ (row self).places }
-    {
-        match self {
-            Verb::Cell => Places::Two(Place::Saved, Place::Term),
-            Verb::Lead => Places::Two(Place::Driver, Place::Moment),
-            Verb::Tick => Places::Two(Place::Driver, Place::Moment),
-            Verb::Resign => Places::One(Place::Driver),
-            Verb::Take => Places::Three(Place::Client, Place::Driver, Place::Count),
-            Verb::Tell => Places::Two(Place::Client, Place::Client),
-            Verb::Hear => Places::One(Place::Client),
-            Verb::Read => Places::Two(Place::Driver, Place::Moment),
-            Verb::Campaign => Places::One(Place::Driver),
-            Verb::Save => Places::One(Place::Driver),
-            Verb::Raise => Places::One(Place::Driver),
-            Verb::Publish => Places::One(Place::Driver),
-            Verb::Probe => Places::Two(Place::Driver, Place::Moment),
-            Verb::Look => Places::Two(Place::Client, Place::Driver),
-            Verb::Arm => Places::Two(Place::Client, Place::Count),
-            Verb::Draw => Places::One(Place::Client),
-        }
-    }
-
+    pub places: Places,
     /// Where its line may stand.
-    pub fn standing(self) -> Standing
-        ensures value { result ≡ (row self).standing }
+    pub standing: Standing,
+}
+
+/// All first words.
+pub const VERBS: [Verb; 16] = [
+    Verb::Cell,
+    Verb::Lead,
+    Verb::Tick,
+    Verb::Resign,
+    Verb::Take,
+    Verb::Tell,
+    Verb::Hear,
+    Verb::Read,
+    Verb::Campaign,
+    Verb::Save,
+    Verb::Raise,
+    Verb::Publish,
+    Verb::Probe,
+    Verb::Look,
+    Verb::Arm,
+    Verb::Draw,
+];
+
+fn row_of(name: &'static str, places: Places, standing: Standing) -> Row
+    ensures name { result.name.now ≡ name.now }
+    ensures places { result.places ≡ places }
+    ensures standing { result.standing ≡ standing }
+{
+    Row {
+        name,
+        places,
+        standing,
+    }
+}
+
+impl Verb {
+    /// Its row in the table of lines.
+    pub fn row(self) -> Row
+        ensures name { result.name.now ≡ (row self).name }
+        ensures places { result.places ≡ (row self).places }
+        ensures standing { result.standing ≡ (row self).standing }
     {
         match self {
-            Verb::Cell => Standing::Opening,
-            Verb::Lead | Verb::Tick | Verb::Resign | Verb::Take | Verb::Tell | Verb::Hear =>
-                Standing::Anywhere,
-            Verb::Read
-            | Verb::Campaign
-            | Verb::Save
-            | Verb::Raise
-            | Verb::Publish
-            | Verb::Probe
-            | Verb::Look
-            | Verb::Arm
-            | Verb::Draw => Standing::SingleStep,
+            Verb::Cell => row_of("cell", Two(Saved, Term), Opening),
+            Verb::Lead => row_of("lead", Two(Driver, Moment), Anywhere),
+            Verb::Tick => row_of("tick", Two(Driver, Moment), Anywhere),
+            Verb::Resign => row_of("resign", One(Driver), Anywhere),
+            Verb::Take => row_of("take", Three(Client, Driver, Count), Anywhere),
+            Verb::Tell => row_of("tell", Two(Client, Client), Anywhere),
+            Verb::Hear => row_of("hear", One(Client), Anywhere),
+            Verb::Read => row_of("read", Two(Driver, Moment), SingleStep),
+            Verb::Campaign => row_of("campaign", One(Driver), SingleStep),
+            Verb::Save => row_of("save", One(Driver), SingleStep),
+            Verb::Raise => row_of("raise", One(Driver), SingleStep),
+            Verb::Publish => row_of("publish", One(Driver), SingleStep),
+            Verb::Probe => row_of("probe", Two(Driver, Moment), SingleStep),
+            Verb::Look => row_of("look", Two(Client, Driver), SingleStep),
+            Verb::Arm => row_of("arm", Two(Client, Count), SingleStep),
+            Verb::Draw => row_of("draw", One(Client), SingleStep),
         }
     }
 }
@@ -127,7 +131,7 @@ fn first_named(verbs: &[Verb], word: &[u8]) -> Option<Verb>
     ensures value { result ≡ find (λ verb. bytes_eq word.now (row verb).name) verbs.now }
 {
     for verb in verbs {
-        if word == verb.name().as_bytes() {
+        if word == verb.row().name.as_bytes() {
             return Some(*verb);
         }
     }
@@ -138,23 +142,5 @@ fn first_named(verbs: &[Verb], word: &[u8]) -> Option<Verb>
 pub fn verb_of(word: &[u8]) -> Option<Verb>
     ensures value { result ≡ verb_of word.now }
 {
-    let verbs = [
-        Verb::Cell,
-        Verb::Lead,
-        Verb::Tick,
-        Verb::Resign,
-        Verb::Take,
-        Verb::Tell,
-        Verb::Hear,
-        Verb::Read,
-        Verb::Campaign,
-        Verb::Save,
-        Verb::Raise,
-        Verb::Publish,
-        Verb::Probe,
-        Verb::Look,
-        Verb::Arm,
-        Verb::Draw,
-    ];
-    first_named(&verbs, word)
+    first_named(&VERBS, word)
 }
