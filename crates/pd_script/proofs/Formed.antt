@@ -1,6 +1,6 @@
 -- What a line asks has its form, and the driver that it asks is 1 or more.
 use Rattle.std.proofs.Common.{◌≡◌, ◌⊎◌, inl, inr, ◌<◌, ◌^◌, ℕ, List, [], ◌∷◌, length, take, drop, ◌≤◌, Bool, true, false, not, cond, nat_le, nat_lt, All, Option, Some, None, refl, sym, subst, arith}
-use Rattle.std.specs.Prelude.{Result, Ok, Err, codes, ◌&&◌}
+use Rattle.std.specs.Prelude.{Result, Ok, Err, codes}
 use Rattle.std.specs.List.{AllByRecursion}
 use Rattle.std.specs.Str.{bytes_eq}
 use Rattle.std.proofs.lemmas.Bool.Decides.{nat_tests}
@@ -30,7 +30,7 @@ use Rattle.pd_script.specs.declared.refusal.Reason.{Reason}
 use Rattle.pd_script.specs.declared.refusal.Reason.TheVariants.{BadWord, ExtraWord, MissingWord}
 use Rattle.pd_script.specs.declared.request_verb.RequestVerb.{RequestVerb}
 use Rattle.pd_script.specs.declared.request_verb.RequestVerb.TheVariants.{Hello as ToHello, Alive as ToAlive, Beat as ToBeat, Rule as ToRule, Unrule as ToUnrule}
-use Rattle.pd_script.proofs.Results.{InPlace, both_true, in_place, no_fine, same_ok, then_read}
+use Rattle.pd_script.proofs.Results.{InPlace, in_place, no_fine, same_ok, then_read}
 
 -- what a test lets through
 when_ok : {A : Type 0} (b : Bool) (x y : A) (reason : Reason) → cond {A = Result A Reason} b (Ok x) (Err reason) ≡ Ok y → (b ≡ true) × (x ≡ y)

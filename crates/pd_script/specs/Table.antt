@@ -1,6 +1,6 @@
 -- The lines of a script: the first word, what stands behind it, and where the line may stand. A line's actor is the driver or
 -- the client that it names first (own choice).
-use Rattle.std.specs.Prelude.{ℕ, List, [], ◌∷◌, codes, Option, None, Bool, true, false}
+use Rattle.std.specs.Prelude.{ℕ, List, codes, Option, None, Bool, true, false}
 use Rattle.std.specs.List.{find}
 use Rattle.std.specs.Str.{bytes_eq}
 use Rattle.pd_script.specs.declared.place.Place.TheVariants.{Driver, Client, Moment, Count, Saved, Term}

@@ -1,12 +1,13 @@
 // Words that list peers, cut at each `:` and `,`.
-ghost use Rattle.std.specs.Prelude.{◌≡◌, ◌∷◌, ◌<◌, length, IfOk, IfErr, IsSome, MatchResult, Ok, Err};
-ghost use Rattle.pd_script.specs.Forms.{before_colon, downs_from, downs_of, ids_from, in_front, is_colon, is_separator, items_behind, items_of, peers_from, peers_of, pending_of, role_of, unless_colon};
+ghost use Rattle.std.specs.Prelude.{◌≡◌, List, [], ◌∷◌, ◌<◌, length, IfOk, IfErr, IsSome, MatchResult, Result, Ok, Err, refl};
+ghost use Rattle.pd_script.specs.Forms.{Item, before_colon, downs_from, downs_of, ids_from, in_front, is_colon, is_separator, items_behind, items_of, peers_from, peers_of, pending_of, role_of, unless_colon};
 ghost use Rattle.pd_script.specs.Refusals.{IsLineRefusal};
+ghost use Rattle.pd_script.specs.declared.refusal.Reason.{Reason};
 
 use crate::Reason;
 use crate::place::{Place, read_place};
 use crate::refusal::LineRefusal;
-use pd_types::{DownPeer, Downs, Ids, Peer, Peers, Role};
+use pd_types::{DownPeer, Downs, Ids, Peer, Peers, Role, Seq};
 use std::alloc::Global;
 
 fn is_separator(byte: u8) -> bool
@@ -58,35 +59,75 @@ fn role(word: &[u8]) -> Result<Role, Reason>
     }
 }
 
-// The first peer of a list, the separator behind it, and what stands behind that.
-fn first_peer(word: &[u8]) -> Result<(Peer, Option<u8>, &[u8]), Reason>
-    ensures value { MatchResult result (λ p. peers_from (items_of word.now) ≡ in_front p.0 (unless_colon p.1 (peers_from (items_behind p.1 p.2.now)))) (λ reason. peers_from (items_of word.now) ≡ Err reason) }
-    ensures shorter { IfOk result (λ p. IsSome p.1 → length p.2.now < length word.now) }
-{
-    let (id, behind_id, rest) = item(word);
-    let id = before_colon(Place::Id, id, behind_id)?;
-    let (store, behind_store, rest) = item(rest);
-    let store = before_colon(Place::Id, store, behind_store)?;
-    let (word, behind, rest) = item(rest);
-    let role = role(word)?;
-    Ok((Peer { id, store, role }, behind, rest))
+/// What a word lists, with commas between its elements.
+trait Listed: Drop + Sized {
+    /// The list that these items spell.
+    ghost read_items: { List Item → Result (List Self) Reason };
+
+    /// The first element of a list, the separator behind it, and what stands behind that.
+    fn first(word: &[u8]) -> Result<(Self, Option<u8>, &[u8]), Reason>
+        ensures value { MatchResult result (λ p. read_items (items_of word.now) ≡ in_front p.0 (unless_colon p.1 (read_items (items_behind p.1 p.2.now)))) (λ reason. read_items (items_of word.now) ≡ Err reason) }
+        ensures shorter { IfOk result (λ p. IsSome p.1 → length p.2.now < length word.now) };
+
+    ghost none: { read_items [] ≡ Ok [] };
 }
 
-// The peers of a list that isn't `-`.
-fn listed_peers(alloc: Global, word: &[u8]) -> Result<Peers, LineRefusal>
-    ensures ok { IfOk result (λ peers. peers_from (items_of word.now) ≡ Ok peers) }
-    ensures refused { IfErr result (IsLineRefusal (peers_from (items_of word.now))) }
+impl Listed for Peer {
+    ghost read_items = { peers_from };
+
+    ghost none = { refl };
+
+    fn first(word: &[u8]) -> Result<(Peer, Option<u8>, &[u8]), Reason> {
+        let (id, behind_id, rest) = item(word);
+        let id = before_colon(Place::Id, id, behind_id)?;
+        let (store, behind_store, rest) = item(rest);
+        let store = before_colon(Place::Id, store, behind_store)?;
+        let (word, behind, rest) = item(rest);
+        let role = role(word)?;
+        Ok((Peer { id, store, role }, behind, rest))
+    }
+}
+
+impl Listed for DownPeer {
+    ghost read_items = { downs_from };
+
+    ghost none = { refl };
+
+    fn first(word: &[u8]) -> Result<(DownPeer, Option<u8>, &[u8]), Reason> {
+        let (peer, behind_peer, rest) = item(word);
+        let peer = before_colon(Place::Id, peer, behind_peer)?;
+        let (seconds, behind, rest) = item(rest);
+        let seconds = read_place(Place::Seconds, seconds)?;
+        Ok((DownPeer { peer, seconds }, behind, rest))
+    }
+}
+
+impl Listed for u64 {
+    ghost read_items = { ids_from };
+
+    ghost none = { refl };
+
+    fn first(word: &[u8]) -> Result<(u64, Option<u8>, &[u8]), Reason> {
+        let (id, behind, rest) = item(word);
+        Ok((read_place(Place::Id, id)?, behind, rest))
+    }
+}
+
+// The elements of a list.
+fn elements<T: Listed>(alloc: Global, word: &[u8]) -> Result<Seq<T>, LineRefusal>
+    ensures ok { IfOk result (λ list. T.read_items (items_of word.now) ≡ Ok list) }
+    ensures refused { IfErr result (IsLineRefusal (T.read_items (items_of word.now))) }
 {
-    let mut peers = Peers::new(alloc);
+    let mut list = Seq::new(alloc);
     let mut left = word;
-    loop {
-        let (peer, behind, rest) = first_peer(left)?;
-        peers.push(peer)?;
+    'left: loop {
+        let (element, behind, rest) = T::first(left)?;
+        list.push(element)?;
         if is_colon(behind) {
             return Err(LineRefusal::Fault(Reason::BadWord));
         }
         if behind.is_none() {
-            return Ok(peers);
+            return Ok(list);
         }
         left = rest;
     }
@@ -100,39 +141,7 @@ pub fn peers(alloc: Global, word: &[u8]) -> Result<Peers, LineRefusal>
     if word == b"-".as_slice() {
         return Ok(Peers::new(alloc));
     }
-    listed_peers(alloc, word)
-}
-
-// The first down peer of a list, the separator behind it, and what stands behind that.
-fn first_down(word: &[u8]) -> Result<(DownPeer, Option<u8>, &[u8]), Reason>
-    ensures value { MatchResult result (λ p. downs_from (items_of word.now) ≡ in_front p.0 (unless_colon p.1 (downs_from (items_behind p.1 p.2.now)))) (λ reason. downs_from (items_of word.now) ≡ Err reason) }
-    ensures shorter { IfOk result (λ p. IsSome p.1 → length p.2.now < length word.now) }
-{
-    let (peer, behind_peer, rest) = item(word);
-    let peer = before_colon(Place::Id, peer, behind_peer)?;
-    let (seconds, behind, rest) = item(rest);
-    let seconds = read_place(Place::Seconds, seconds)?;
-    Ok((DownPeer { peer, seconds }, behind, rest))
-}
-
-// The down peers of a list.
-fn listed_downs(alloc: Global, word: &[u8]) -> Result<Downs, LineRefusal>
-    ensures ok { IfOk result (λ downs. downs_from (items_of word.now) ≡ Ok downs) }
-    ensures refused { IfErr result (IsLineRefusal (downs_from (items_of word.now))) }
-{
-    let mut downs = Downs::new(alloc);
-    let mut left = word;
-    loop {
-        let (down, behind, rest) = first_down(left)?;
-        downs.push(down)?;
-        if is_colon(behind) {
-            return Err(LineRefusal::Fault(Reason::BadWord));
-        }
-        if behind.is_none() {
-            return Ok(downs);
-        }
-        left = rest;
-    }
+    elements(alloc, word)
 }
 
 /// The down peers that a word lists behind `down=`.
@@ -141,37 +150,8 @@ pub fn downs(alloc: Global, word: &[u8]) -> Result<Downs, LineRefusal>
     ensures refused { IfErr result (IsLineRefusal (downs_of word.now)) }
 {
     match word.strip_prefix(b"down=") {
-        Some(list) => listed_downs(alloc, list),
+        Some(list) => elements(alloc, list),
         None => Err(LineRefusal::Fault(Reason::BadWord)),
-    }
-}
-
-// The first id of a list, the separator behind it, and what stands behind that.
-fn first_id(word: &[u8]) -> Result<(u64, Option<u8>, &[u8]), Reason>
-    ensures value { MatchResult result (λ p. ids_from (items_of word.now) ≡ in_front p.0 (unless_colon p.1 (ids_from (items_behind p.1 p.2.now)))) (λ reason. ids_from (items_of word.now) ≡ Err reason) }
-    ensures shorter { IfOk result (λ p. IsSome p.1 → length p.2.now < length word.now) }
-{
-    let (id, behind, rest) = item(word);
-    Ok((read_place(Place::Id, id)?, behind, rest))
-}
-
-// The ids of a list.
-fn listed_ids(alloc: Global, word: &[u8]) -> Result<Ids, LineRefusal>
-    ensures ok { IfOk result (λ ids. ids_from (items_of word.now) ≡ Ok ids) }
-    ensures refused { IfErr result (IsLineRefusal (ids_from (items_of word.now))) }
-{
-    let mut ids = Ids::new(alloc);
-    let mut left = word;
-    loop {
-        let (id, behind, rest) = first_id(left)?;
-        ids.push(id)?;
-        if is_colon(behind) {
-            return Err(LineRefusal::Fault(Reason::BadWord));
-        }
-        if behind.is_none() {
-            return Ok(ids);
-        }
-        left = rest;
     }
 }
 
@@ -181,7 +161,7 @@ pub fn pending(alloc: Global, word: &[u8]) -> Result<Ids, LineRefusal>
     ensures refused { IfErr result (IsLineRefusal (pending_of word.now)) }
 {
     match word.strip_prefix(b"pending=") {
-        Some(list) => listed_ids(alloc, list),
+        Some(list) => elements(alloc, list),
         None => Err(LineRefusal::Fault(Reason::BadWord)),
     }
 }

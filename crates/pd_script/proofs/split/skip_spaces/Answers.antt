@@ -1,7 +1,7 @@
 use borrow.Author.Count.{below_more}
 use Rattle.std.proofs.Common.{◌≡◌, ℕ, get_or, true}
 use Rattle.pd_script.specs.Words.{is_space}
-use Rattle.pd_script.proofs.Cuts.{all_spaces, no_word_found, rest_from, skip_one, space_is, word_found}
+use Rattle.pd_script.proofs.Cuts.{no_word_found, rest_from, skip_one, space_is, word_found}
 use Rattle.pd_script.proofs.split.skip_spaces.Goals as goal
 
 pub returns-then-byte-ne32-clause-words : goal.returns-then-byte-ne32-clause-words
