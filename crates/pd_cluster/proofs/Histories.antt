@@ -27,13 +27,14 @@ use Rattle.pd_types.specs.declared.oracle.Actor.{Actor}
 use Rattle.pd_types.specs.declared.oracle.Actor.TheVariants.{Driver, Client}
 use Rattle.tso_core.proofs.Granted.{ledger, bounded}
 use Rattle.tso_core.proofs.Telling.{each_call_tells, is_new}
-use Rattle.pd_script.specs.Lawful.{AreLawful, IsLawful, IsLawfulScript, IsOneOf, actor_in}
+use Rattle.pd_script.specs.Lawful.{AreLawful, IsInRange, IsLawful, IsLawfulScript, actor_in}
 use Rattle.pd_types.specs.declared.request.Request.{Request}
-use Rattle.pd_types.specs.declared.request.Request.TheVariants.{Hello, Alive, Beat, Term, Retire}
+use Rattle.pd_types.specs.declared.request.Request.TheVariants.{Hello, Alive, Beat, Rule, Unrule, Term, Retire}
 use Rattle.pd_script.specs.Scripts.{asker}
 use Rattle.pd_script.specs.declared.act.Act.{Act}
 use Rattle.pd_script.specs.declared.act.Act.TheVariants.{Cell, Lead, Tick, Resign, Take, Tell, Hear, Read, Campaign, Save, Raise, Publish, Probe, Look, Arm, Draw, Ask}
 use Rattle.pd_script.specs.declared.act.Line.{Line}
+use Rattle.pd_script.specs.declared.place.Place.TheVariants.{Driver as DriverPlace, Client as ClientPlace, Count as CountPlace}
 use Rattle.pd_script.specs.declared.script.Mode.{Mode}
 use Rattle.pd_script.specs.declared.script.Script.{Script}
 use Rattle.pd_cluster.specs.Answers.{Answer, answer_text, answers_text, client_in, driver_in, named_cell, opening_cell, oracle_reply}
@@ -43,14 +44,14 @@ use Rattle.pd_cluster.specs.Outcome.{IsSafeRun, StaysBounded}
 use Rattle.pd_cluster.specs.Replay.{State, act_step, answers_from, answers_of, line_step, setup_of, start, state_after}
 
 -- the ranges of a script are the oracle's
-pub has_driver : (k : Setup) (d : ℕ) → IsOneOf k.drivers d → HasDriver k d
-has_driver k d one = record { pos = one.pos; low = one.low }
+pub has_driver : (k : Setup) (d : ℕ) → IsInRange k.drivers k.clients (DriverPlace, d) → HasDriver k d
+has_driver k d one = record { pos = omega (arith, one.low); low = one.high }
 
-pub has_client : (k : Setup) (c : ℕ) → IsOneOf k.clients c → HasClient k c
-has_client k c one = record { pos = one.pos; low = one.low }
+pub has_client : (k : Setup) (c : ℕ) → IsInRange k.drivers k.clients (ClientPlace, c) → HasClient k c
+has_client k c one = record { pos = omega (arith, one.low); low = one.high }
 
-pub is_count : (n : ℕ) → Rattle.pd_script.specs.Lawful.IsCount n → IsCount n
-is_count n count = record { some = count.some; most = count.most }
+pub is_count : (k : Setup) (n : ℕ) → IsInRange k.drivers k.clients (CountPlace, n) → IsCount n
+is_count k n count = record { some = omega (arith, count.low); most = count.high }
 
 up_to_itself : (seen : Seen) → IsUpTo seen seen
 up_to_itself seen = record { term = omega arith; last = omega arith }
@@ -88,19 +89,19 @@ act_tells : (w : Whole) → IsSound w → (act : Act) → IsLawful w.setup.drive
 act_tells w s (Cell saved term) asked = opens w s saved term
 act_tells w s (Lead driver now) asked = (each_call_tells w s).lead driver now (has_driver w.setup driver asked.0)
 act_tells w s (Tick driver now) asked = (each_call_tells w s).tick driver now (has_driver w.setup driver asked.0)
-act_tells w s (Resign driver) asked = (each_call_tells w s).resign driver (has_driver w.setup driver asked)
-act_tells w s (Take client driver n) asked = (each_call_tells w s).take client driver n (has_client w.setup client asked.0) (has_driver w.setup driver asked.1) (is_count n asked.2)
-act_tells w s (Tell client to) asked = (each_call_tells w s).tell client to (has_client w.setup client asked.0) (has_client w.setup to asked.1)
-act_tells w s (Hear client) asked = (each_call_tells w s).hear client (has_client w.setup client asked)
+act_tells w s (Resign driver) asked = (each_call_tells w s).resign driver (has_driver w.setup driver asked.0)
+act_tells w s (Take client driver n) asked = (each_call_tells w s).take client driver n (has_client w.setup client asked.0) (has_driver w.setup driver asked.1.0) (is_count w.setup n asked.1.1.0)
+act_tells w s (Tell client to) asked = (each_call_tells w s).tell client to (has_client w.setup client asked.0) (has_client w.setup to asked.1.0)
+act_tells w s (Hear client) asked = (each_call_tells w s).hear client (has_client w.setup client asked.0)
 act_tells w s (Read driver now) asked = (each_call_tells w s).step (Driver driver) (ToRead now) (has_driver w.setup driver asked.0) tt
-act_tells w s (Campaign driver) asked = (each_call_tells w s).step (Driver driver) ToCampaign (has_driver w.setup driver asked) tt
-act_tells w s (Save driver) asked = (each_call_tells w s).step (Driver driver) ToSave (has_driver w.setup driver asked) tt
-act_tells w s (Raise driver) asked = (each_call_tells w s).step (Driver driver) ToRaise (has_driver w.setup driver asked) tt
-act_tells w s (Publish driver) asked = (each_call_tells w s).step (Driver driver) ToPublish (has_driver w.setup driver asked) tt
+act_tells w s (Campaign driver) asked = (each_call_tells w s).step (Driver driver) ToCampaign (has_driver w.setup driver asked.0) tt
+act_tells w s (Save driver) asked = (each_call_tells w s).step (Driver driver) ToSave (has_driver w.setup driver asked.0) tt
+act_tells w s (Raise driver) asked = (each_call_tells w s).step (Driver driver) ToRaise (has_driver w.setup driver asked.0) tt
+act_tells w s (Publish driver) asked = (each_call_tells w s).step (Driver driver) ToPublish (has_driver w.setup driver asked.0) tt
 act_tells w s (Probe driver now) asked = (each_call_tells w s).step (Driver driver) (ToProbe now) (has_driver w.setup driver asked.0) tt
-act_tells w s (Look client driver) asked = (each_call_tells w s).step (Client client) (ToLook driver) (has_client w.setup client asked.0) (has_driver w.setup driver asked.1)
-act_tells w s (Arm client n) asked = (each_call_tells w s).step (Client client) (ToArm n) (has_client w.setup client asked.0) (is_count n asked.1)
-act_tells w s (Draw client) asked = (each_call_tells w s).step (Client client) ToDraw (has_client w.setup client asked) tt
+act_tells w s (Look client driver) asked = (each_call_tells w s).step (Client client) (ToLook driver) (has_client w.setup client asked.0) (has_driver w.setup driver asked.1.0)
+act_tells w s (Arm client n) asked = (each_call_tells w s).step (Client client) (ToArm n) (has_client w.setup client asked.0) (is_count w.setup n asked.1.0)
+act_tells w s (Draw client) asked = (each_call_tells w s).step (Client client) ToDraw (has_client w.setup client asked.0) tt
 act_tells w s (Ask driver request) asked = silent w s (driver_in (Some (asker driver request))) (client_in (Some (asker driver request)))
 
 -- an answer grants a batch, or nothing
@@ -411,7 +412,7 @@ runs (line ∷ lines) state s asked =
 
 -- the opening cell of a lawful script
 act_cell : (drivers clients : ℕ) (act : Act) → IsLawful drivers clients act → ((named_cell act).saved < 2 ^ 45) × ((named_cell act).term < 262144)
-act_cell drivers clients (Cell saved term) asked = asked
+act_cell drivers clients (Cell saved term) asked = (omega (arith, asked.0.high), omega (arith, asked.1.0.high))
 act_cell drivers clients (Lead driver now) asked = (omega arith, omega arith)
 act_cell drivers clients (Tick driver now) asked = (omega arith, omega arith)
 act_cell drivers clients (Resign driver) asked = (omega arith, omega arith)
@@ -493,27 +494,29 @@ asker_low : (drivers driver : ℕ) (request : Request) → driver ≤ drivers �
 asker_low drivers driver (Hello store moment address labels) low = omega arith
 asker_low drivers driver (Alive store moment) low = omega arith
 asker_low drivers driver (Beat store moment beat) low = omega arith
+asker_low drivers driver (Rule moment json) low = low
+asker_low drivers driver (Unrule moment group id) low = low
 asker_low drivers driver (Term term moment) low = low
 asker_low drivers driver Retire low = low
 
 driver_low : (drivers clients : ℕ) (act : Act) → IsLawful drivers clients act → driver_in (actor_in act) ≤ drivers
 driver_low drivers clients (Cell saved term) asked = omega arith
-driver_low drivers clients (Lead driver now) asked = asked.0.low
-driver_low drivers clients (Tick driver now) asked = asked.0.low
-driver_low drivers clients (Resign driver) asked = asked.low
+driver_low drivers clients (Lead driver now) asked = asked.0.high
+driver_low drivers clients (Tick driver now) asked = asked.0.high
+driver_low drivers clients (Resign driver) asked = asked.0.high
 driver_low drivers clients (Take client driver n) asked = omega arith
 driver_low drivers clients (Tell client to) asked = omega arith
 driver_low drivers clients (Hear client) asked = omega arith
-driver_low drivers clients (Read driver now) asked = asked.0.low
-driver_low drivers clients (Campaign driver) asked = asked.low
-driver_low drivers clients (Save driver) asked = asked.low
-driver_low drivers clients (Raise driver) asked = asked.low
-driver_low drivers clients (Publish driver) asked = asked.low
-driver_low drivers clients (Probe driver now) asked = asked.0.low
+driver_low drivers clients (Read driver now) asked = asked.0.high
+driver_low drivers clients (Campaign driver) asked = asked.0.high
+driver_low drivers clients (Save driver) asked = asked.0.high
+driver_low drivers clients (Raise driver) asked = asked.0.high
+driver_low drivers clients (Publish driver) asked = asked.0.high
+driver_low drivers clients (Probe driver now) asked = asked.0.high
 driver_low drivers clients (Look client driver) asked = omega arith
 driver_low drivers clients (Arm client n) asked = omega arith
 driver_low drivers clients (Draw client) asked = omega arith
-driver_low drivers clients (Ask driver request) asked = asker_low drivers driver request asked.low
+driver_low drivers clients (Ask driver request) asked = asker_low drivers driver request asked.0.high
 
 pub actor_low : (drivers clients : ℕ) (actor : Option Actor) (act : Act) → actor ≡ actor_in act → IsLawful drivers clients act → driver_in actor ≤ drivers
 actor_low drivers clients actor act is asked = subst (λ (a : Option Actor). driver_in a ≤ drivers) (sym is) (driver_low drivers clients act asked)

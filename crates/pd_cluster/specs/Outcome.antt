@@ -9,7 +9,7 @@ use Rattle.tso_core.specs.Laws.{AreBounded}
 use Rattle.pd_script.specs.Numbering.{reason_number}
 use Rattle.pd_script.specs.Scripts.{script_of}
 use Rattle.pd_script.specs.declared.refusal.Limited.{Limited}
-use Rattle.pd_script.specs.declared.refusal.Limited.TheVariants.{Events, Drivers, Clients, Stores}
+use Rattle.pd_script.specs.declared.refusal.Limited.TheVariants.{Events, Drivers, Clients, Stores, Leads}
 use Rattle.pd_script.specs.declared.refusal.ScriptRefusal.{ScriptRefusal}
 use Rattle.pd_script.specs.declared.refusal.ScriptRefusal.TheVariants.{Fault, Limit as PastLimit, NoMemory as NoRoom}
 use Rattle.pd_script.specs.declared.script.Mode.{Mode}
@@ -52,6 +52,7 @@ limited_text Events = codes "events"
 limited_text Drivers = codes "drivers"
 limited_text Clients = codes "clients"
 limited_text Stores = codes "stores"
+limited_text Leads = codes "leads"
 
 -- the answer to a text that is no script; want of memory is never the text's own
 abbrev pub refusal_outcome : ScriptRefusal → Outcome

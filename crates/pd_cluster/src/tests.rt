@@ -41,7 +41,7 @@ fn expect<R: Threads + Wait + Sync + Abort>(
 }
 
 // Worked rows. In each line an act stands in front of `>` and its answer.
-const ROWS: [&str; 24] = [
+const ROWS: [&str; 26] = [
     "\
 lead 1 1000 > won term 1 lo 1000 hi 4000
 hello 1 1 1000 a1 > store put
@@ -223,6 +223,28 @@ beat 1 1 1002 1 - 6d 1 2 11 11:1:v > accepted removed 0 none
 beat 1 1 1003 2 6d - 1 2 21 21:1:v > accepted removed 0 none
 beat 1 1 1004 1 - - 1 1 11 11:1:v > stale conf 1 version 2
 beat 1 1 1005 2 - - 1 3 21 21:1:v > accepted removed 1 none",
+    "\
+lead 1 1000 > won term 1 lo 1000 hi 4000
+hello 1 1 1000 a1 > store put
+hello 2 1 1000 a2 > store put
+hello 3 1 1000 a3 > store put
+beat 1 1 1000 7 - - 1 1 11 11:1:v,12:2:v,13:3:v > accepted removed 0 none
+rule 1 1000 {\"group_id\":\"pd\",\"id\":\"x\",\"role\":\"voter\",\"count\":1,\"start_key\":\"40\",\"color\":\"red\"} > rule set
+rule 1 1000 {\"group_id\":\"pd\",\"id\":\"x\",\"role\":\"voter\",\"count\":1,\"start_key\":\"40\",\"isolation_level\":\"zone\"} > bad-rule 10
+unrule 1 1000 pd y > absent
+unrule 1 1000 pd x > rule removed
+unrule 1 1000 pd default > last-rule
+unrule 2 1000 pd x > not-leading",
+    // The first other rule stores the default rule too, so the next term knows both.
+    "\
+lead 1 1000 > won term 1 lo 1000 hi 4000
+rule 1 1000   {\"group_id\": \"pd\", \"id\": \"x\", \"role\": \"voter\", \"count\": 1}   > rule set
+lead 2 500 > won term 2 lo 4001 hi 7001
+unrule 1 1001 pd x > old-term 2
+unrule 2 501 pd default > rule removed
+unrule 2 502 pd x > last-rule
+lead 1 1002 > won term 3 lo 7002 hi 10002
+unrule 1 1003 pd default > absent",
     "",
 ];
 
@@ -346,19 +368,19 @@ fn the_first_line_at_fault_or_limit_is_named(rt: HostRuntime) -> Result<(), Fail
 }
 
 #[test]
-fn one_event_too_many_is_counted(rt: HostRuntime) -> Result<(), Fail> {
-    let alloc = rt.alloc();
-    let mut script = String::new(alloc);
-    for _ in 0..65537 {
-        script.push_str("tick 1 1\n")?;
+fn one_line_too_many_is_counted(rt: HostRuntime) -> Result<(), Fail> {
+    let rows = [
+        ("tick 1 1\n", 65537, "limit events 65537\n"),
+        ("lead 1 1\n", 1025, "limit leads 1025\n"),
+        ("publish 1\n", 1025, "limit leads 1025\n"),
+    ];
+    for (line, times, written) in rows {
+        let mut script = String::new(rt.alloc());
+        for _ in 0..times {
+            script.push_str(line)?;
+        }
+        expect(&rt, rt.alloc(), script.as_str(), Status::Limit, written)?;
     }
-    expect(
-        &rt,
-        alloc,
-        script.as_str(),
-        Status::Limit,
-        "limit events 65537\n",
-    )?;
     Ok(())
 }
 

@@ -97,6 +97,7 @@ fn limited_word(what: Limited) -> &'static str
         Limited::Drivers => "drivers",
         Limited::Clients => "clients",
         Limited::Stores => "stores",
+        Limited::Leads => "leads",
     }
 }
 
