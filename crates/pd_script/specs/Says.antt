@@ -12,6 +12,7 @@ use Rattle.pd_script.specs.declared.place.Place.TheVariants.{Driver, Client, Mom
 use Rattle.pd_script.specs.declared.verb.Standing.{Standing}
 use Rattle.pd_script.specs.declared.verb.Standing.TheVariants.{Anywhere, Opening, SingleStep}
 
+-- what one line says: where it may stand, who acts, the numbers in their places, and the request that a cluster is asked
 pub record Says : Type 0 where
   pub standing : Standing
   pub actor : Option Actor

@@ -18,7 +18,7 @@ pub fn asker(driver: u8, request: &Request) -> Actor
     }
 }
 
-// The store that says a request, where one does.
+/// The store that says a request, where one does.
 pub fn speaker(request: &Request) -> Option<u64>
     ensures value { (driver : ℕ) → option_to_list result ≡ store_in (asker driver request.now) }
 {
@@ -43,7 +43,7 @@ fn acting(place: Place, n: u64) -> Option<Actor>
     }
 }
 
-// Who acts in a line of the oracle.
+/// Who acts in a line of the oracle: the driver or client that it names first, none in a `cell` line.
 pub fn step_actor(places: Places, n: Numbers) -> Option<Actor>
     requires drivers { greatest_in if_driver places n ≤ 7 }
     requires clients { greatest_in if_client places n ≤ 64 }

@@ -33,7 +33,7 @@ fn json(alloc: Global, text: &[u8]) -> Result<Bytes, LineRefusal>
     Ok(Bytes::of(text.to_vec(alloc)?))
 }
 
-// `rule D NOW JSON`
+/// Reads what stands behind the word of `rule D NOW JSON`. Want of memory alone reads nothing.
 pub fn rule(alloc: Global, rest: &[u8]) -> Result<Asked, LineRefusal>
     ensures ok { IfOk result (λ asked. rule_of rest.now ≡ Ok asked) }
     ensures refused { IfErr result (IsLineRefusal (rule_of rest.now)) }
@@ -87,7 +87,7 @@ fn name(alloc: Global, word: &[u8]) -> Result<Text, LineRefusal>
     Ok(name_text(alloc, word)?)
 }
 
-// `unrule D NOW GROUP ID`
+/// Reads what stands behind the word of `unrule D NOW GROUP ID`. Want of memory alone reads nothing.
 pub fn unrule(alloc: Global, rest: &[u8]) -> Result<Asked, LineRefusal>
     ensures ok { IfOk result (λ asked. unrule_of (words rest.now) ≡ Ok asked) }
     ensures refused { IfErr result (IsLineRefusal (unrule_of (words rest.now))) }
