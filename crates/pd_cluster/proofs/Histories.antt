@@ -28,13 +28,13 @@ use Rattle.pd_types.specs.declared.oracle.Actor.TheVariants.{Driver, Client}
 use Rattle.tso_core.proofs.Granted.{ledger, bounded}
 use Rattle.tso_core.proofs.Telling.{each_call_tells, is_new}
 use Rattle.pd_script.specs.Lawful.{AreLawful, IsInRange, IsLawful, IsLawfulScript, actor_in}
+use Rattle.pd_script.specs.declared.place.Place.TheVariants.{Driver as AtDriver, Client as AtClient, Count as AtCount}
 use Rattle.pd_types.specs.declared.request.Request.{Request}
-use Rattle.pd_types.specs.declared.request.Request.TheVariants.{Hello, Alive, Beat, Rule, Unrule, Term, Retire}
+use Rattle.pd_types.specs.declared.request.Request.TheVariants.{Hello, Alive, Beat}
 use Rattle.pd_script.specs.Scripts.{asker}
 use Rattle.pd_script.specs.declared.act.Act.{Act}
 use Rattle.pd_script.specs.declared.act.Act.TheVariants.{Cell, Lead, Tick, Resign, Take, Tell, Hear, Read, Campaign, Save, Raise, Publish, Probe, Look, Arm, Draw, Ask}
 use Rattle.pd_script.specs.declared.act.Line.{Line}
-use Rattle.pd_script.specs.declared.place.Place.TheVariants.{Driver as DriverPlace, Client as ClientPlace, Count as CountPlace}
 use Rattle.pd_script.specs.declared.script.Mode.{Mode}
 use Rattle.pd_script.specs.declared.script.Script.{Script}
 use Rattle.pd_cluster.specs.Answers.{Answer, answer_text, answers_text, client_in, driver_in, named_cell, opening_cell, oracle_reply}
@@ -44,14 +44,14 @@ use Rattle.pd_cluster.specs.Outcome.{IsSafeRun, StaysBounded}
 use Rattle.pd_cluster.specs.Replay.{State, act_step, answers_from, answers_of, line_step, setup_of, start, state_after}
 
 -- the ranges of a script are the oracle's
-pub has_driver : (k : Setup) (d : ℕ) → IsInRange k.drivers k.clients (DriverPlace, d) → HasDriver k d
-has_driver k d one = record { pos = omega (arith, one.low); low = one.high }
+pub has_driver : (k : Setup) (d : ℕ) → IsInRange k.drivers k.clients (AtDriver, d) → HasDriver k d
+has_driver k d range = record { pos = omega (arith, range.low); low = range.high }
 
-pub has_client : (k : Setup) (c : ℕ) → IsInRange k.drivers k.clients (ClientPlace, c) → HasClient k c
-has_client k c one = record { pos = omega (arith, one.low); low = one.high }
+pub has_client : (k : Setup) (c : ℕ) → IsInRange k.drivers k.clients (AtClient, c) → HasClient k c
+has_client k c range = record { pos = omega (arith, range.low); low = range.high }
 
-pub is_count : (k : Setup) (n : ℕ) → IsInRange k.drivers k.clients (CountPlace, n) → IsCount n
-is_count k n count = record { some = omega (arith, count.low); most = count.high }
+pub is_count : (drivers clients n : ℕ) → IsInRange drivers clients (AtCount, n) → IsCount n
+is_count drivers clients n range = record { some = omega (arith, range.low); most = range.high }
 
 up_to_itself : (seen : Seen) → IsUpTo seen seen
 up_to_itself seen = record { term = omega arith; last = omega arith }
@@ -90,7 +90,7 @@ act_tells w s (Cell saved term) asked = opens w s saved term
 act_tells w s (Lead driver now) asked = (each_call_tells w s).lead driver now (has_driver w.setup driver asked.0)
 act_tells w s (Tick driver now) asked = (each_call_tells w s).tick driver now (has_driver w.setup driver asked.0)
 act_tells w s (Resign driver) asked = (each_call_tells w s).resign driver (has_driver w.setup driver asked.0)
-act_tells w s (Take client driver n) asked = (each_call_tells w s).take client driver n (has_client w.setup client asked.0) (has_driver w.setup driver asked.1.0) (is_count w.setup n asked.1.1.0)
+act_tells w s (Take client driver n) asked = (each_call_tells w s).take client driver n (has_client w.setup client asked.0) (has_driver w.setup driver asked.1.0) (is_count w.setup.drivers w.setup.clients n asked.1.1.0)
 act_tells w s (Tell client to) asked = (each_call_tells w s).tell client to (has_client w.setup client asked.0) (has_client w.setup to asked.1.0)
 act_tells w s (Hear client) asked = (each_call_tells w s).hear client (has_client w.setup client asked.0)
 act_tells w s (Read driver now) asked = (each_call_tells w s).step (Driver driver) (ToRead now) (has_driver w.setup driver asked.0) tt
@@ -100,7 +100,7 @@ act_tells w s (Raise driver) asked = (each_call_tells w s).step (Driver driver) 
 act_tells w s (Publish driver) asked = (each_call_tells w s).step (Driver driver) ToPublish (has_driver w.setup driver asked.0) tt
 act_tells w s (Probe driver now) asked = (each_call_tells w s).step (Driver driver) (ToProbe now) (has_driver w.setup driver asked.0) tt
 act_tells w s (Look client driver) asked = (each_call_tells w s).step (Client client) (ToLook driver) (has_client w.setup client asked.0) (has_driver w.setup driver asked.1.0)
-act_tells w s (Arm client n) asked = (each_call_tells w s).step (Client client) (ToArm n) (has_client w.setup client asked.0) (is_count w.setup n asked.1.0)
+act_tells w s (Arm client n) asked = (each_call_tells w s).step (Client client) (ToArm n) (has_client w.setup client asked.0) (is_count w.setup.drivers w.setup.clients n asked.1.0)
 act_tells w s (Draw client) asked = (each_call_tells w s).step (Client client) ToDraw (has_client w.setup client asked.0) tt
 act_tells w s (Ask driver request) asked = silent w s (driver_in (Some (asker driver request))) (client_in (Some (asker driver request)))
 
@@ -264,23 +264,8 @@ abbrev oracle_turn : State → Line → Stepped
 oracle_turn state line = record { reply = oracle_reply (line_step state line).said; after = (line_step state line).after.oracle }
 
 same_turn : (state : State) (number : ℕ) (actor : Option Actor) (act : Act) → oracle_turn state (record { number = number; actor = actor; act = act }) ≡ act_step state.oracle act
-same_turn state number actor (Cell saved term) = refl
-same_turn state number actor (Lead driver now) = refl
-same_turn state number actor (Tick driver now) = refl
-same_turn state number actor (Resign driver) = refl
-same_turn state number actor (Take client driver n) = refl
-same_turn state number actor (Tell client to) = refl
-same_turn state number actor (Hear client) = refl
-same_turn state number actor (Read driver now) = refl
-same_turn state number actor (Campaign driver) = refl
-same_turn state number actor (Save driver) = refl
-same_turn state number actor (Raise driver) = refl
-same_turn state number actor (Publish driver) = refl
-same_turn state number actor (Probe driver now) = refl
-same_turn state number actor (Look client driver) = refl
-same_turn state number actor (Arm client n) = refl
-same_turn state number actor (Draw client) = refl
 same_turn state number actor (Ask driver request) = refl
+same_turn state number actor _ = refl
 
 has_or_not : (k : Setup) (c : ℕ) → HasClient k c ⊎ (HasClient k c → ⊥)
 has_or_not k c = by (order 0 c) (order k.clients c)
@@ -413,22 +398,7 @@ runs (line ∷ lines) state s asked =
 -- the opening cell of a lawful script
 act_cell : (drivers clients : ℕ) (act : Act) → IsLawful drivers clients act → ((named_cell act).saved < 2 ^ 45) × ((named_cell act).term < 262144)
 act_cell drivers clients (Cell saved term) asked = (omega (arith, asked.0.high), omega (arith, asked.1.0.high))
-act_cell drivers clients (Lead driver now) asked = (omega arith, omega arith)
-act_cell drivers clients (Tick driver now) asked = (omega arith, omega arith)
-act_cell drivers clients (Resign driver) asked = (omega arith, omega arith)
-act_cell drivers clients (Take client driver n) asked = (omega arith, omega arith)
-act_cell drivers clients (Tell client to) asked = (omega arith, omega arith)
-act_cell drivers clients (Hear client) asked = (omega arith, omega arith)
-act_cell drivers clients (Read driver now) asked = (omega arith, omega arith)
-act_cell drivers clients (Campaign driver) asked = (omega arith, omega arith)
-act_cell drivers clients (Save driver) asked = (omega arith, omega arith)
-act_cell drivers clients (Raise driver) asked = (omega arith, omega arith)
-act_cell drivers clients (Publish driver) asked = (omega arith, omega arith)
-act_cell drivers clients (Probe driver now) asked = (omega arith, omega arith)
-act_cell drivers clients (Look client driver) asked = (omega arith, omega arith)
-act_cell drivers clients (Arm client n) asked = (omega arith, omega arith)
-act_cell drivers clients (Draw client) asked = (omega arith, omega arith)
-act_cell drivers clients (Ask driver request) asked = (omega arith, omega arith)
+act_cell drivers clients _ asked = (omega arith, omega arith)
 
 lines_cell : (mode : Mode) (drivers clients : ℕ) (first : Bool) (lines : List Line) → AreLawful mode drivers clients first lines → ((opening_cell lines).saved < 2 ^ 45) × ((opening_cell lines).term < 262144)
 lines_cell mode drivers clients first [] asked = (omega arith, omega arith)
@@ -494,29 +464,11 @@ asker_low : (drivers driver : ℕ) (request : Request) → driver ≤ drivers �
 asker_low drivers driver (Hello store moment address labels) low = omega arith
 asker_low drivers driver (Alive store moment) low = omega arith
 asker_low drivers driver (Beat store moment beat) low = omega arith
-asker_low drivers driver (Rule moment json) low = low
-asker_low drivers driver (Unrule moment group id) low = low
-asker_low drivers driver (Term term moment) low = low
-asker_low drivers driver Retire low = low
+asker_low drivers driver _ low = low
 
 driver_low : (drivers clients : ℕ) (act : Act) → IsLawful drivers clients act → driver_in (actor_in act) ≤ drivers
-driver_low drivers clients (Cell saved term) asked = omega arith
-driver_low drivers clients (Lead driver now) asked = asked.0.high
-driver_low drivers clients (Tick driver now) asked = asked.0.high
-driver_low drivers clients (Resign driver) asked = asked.0.high
-driver_low drivers clients (Take client driver n) asked = omega arith
-driver_low drivers clients (Tell client to) asked = omega arith
-driver_low drivers clients (Hear client) asked = omega arith
-driver_low drivers clients (Read driver now) asked = asked.0.high
-driver_low drivers clients (Campaign driver) asked = asked.0.high
-driver_low drivers clients (Save driver) asked = asked.0.high
-driver_low drivers clients (Raise driver) asked = asked.0.high
-driver_low drivers clients (Publish driver) asked = asked.0.high
-driver_low drivers clients (Probe driver now) asked = asked.0.high
-driver_low drivers clients (Look client driver) asked = omega arith
-driver_low drivers clients (Arm client n) asked = omega arith
-driver_low drivers clients (Draw client) asked = omega arith
 driver_low drivers clients (Ask driver request) asked = asker_low drivers driver request asked.0.high
+driver_low drivers clients _ asked = omega (arith, asked.0.high)
 
 pub actor_low : (drivers clients : ℕ) (actor : Option Actor) (act : Act) → actor ≡ actor_in act → IsLawful drivers clients act → driver_in actor ≤ drivers
 actor_low drivers clients actor act is asked = subst (λ (a : Option Actor). driver_in a ≤ drivers) (sym is) (driver_low drivers clients act asked)

@@ -72,16 +72,8 @@ driver_front d pos n (Resign e) first lines placed served same = both of_driver 
 driver_front d pos n (Take c e m) first lines placed served same = same ∙ sym (nobody d (line_of n (Take c e m) ∷ lines_of_driver d lines) (lines_of_driver d lines) pos)
 driver_front d pos n (Tell c to) first lines placed served same = same ∙ sym (nobody d (line_of n (Tell c to) ∷ lines_of_driver d lines) (lines_of_driver d lines) pos)
 driver_front d pos n (Hear c) first lines placed served same = same ∙ sym (nobody d (line_of n (Hear c) ∷ lines_of_driver d lines) (lines_of_driver d lines) pos)
-driver_front d pos n (Read e now) first lines placed served same = absurd (cc placed)
-driver_front d pos n (Campaign e) first lines placed served same = absurd (cc placed)
-driver_front d pos n (Save e) first lines placed served same = absurd (cc placed)
-driver_front d pos n (Raise e) first lines placed served same = absurd (cc placed)
-driver_front d pos n (Publish e) first lines placed served same = absurd (cc placed)
-driver_front d pos n (Probe e now) first lines placed served same = absurd (cc placed)
-driver_front d pos n (Look c e) first lines placed served same = absurd (cc placed)
-driver_front d pos n (Arm c m) first lines placed served same = absurd (cc placed)
-driver_front d pos n (Draw c) first lines placed served same = absurd (cc placed)
-driver_front d pos n (Ask e request) first lines placed served same = absurd served
+driver_front d pos n (Ask e request) first lines placed served same = absurd (cc served)
+driver_front d pos n _ first lines placed served same = absurd (cc placed)
 
 client_front : (c : ℕ) → 0 < c → (n : ℕ) (act : Act) (first : Bool) (lines : List Line) → is_misplaced OnThreads first (standing_of act) ≡ false → IsServed OnThreads act
     → map of_client (own_calls c (calls lines)) ≡ lines_of_client c lines → map of_client (own_calls c (calls (line_of n act ∷ lines))) ≡ lines_of_client c (line_of n act ∷ lines)
@@ -92,16 +84,8 @@ client_front c pos n (Resign d) first lines placed served same = same ∙ sym (n
 client_front c pos n (Take e d m) first lines placed served same = both of_client _ (own_calls c (calls lines)) (lines_of_client c lines) (nat_eq e c) same
 client_front c pos n (Tell e to) first lines placed served same = both of_client _ (own_calls c (calls lines)) (lines_of_client c lines) (nat_eq e c) same
 client_front c pos n (Hear e) first lines placed served same = both of_client _ (own_calls c (calls lines)) (lines_of_client c lines) (nat_eq e c) same
-client_front c pos n (Read d now) first lines placed served same = absurd (cc placed)
-client_front c pos n (Campaign d) first lines placed served same = absurd (cc placed)
-client_front c pos n (Save d) first lines placed served same = absurd (cc placed)
-client_front c pos n (Raise d) first lines placed served same = absurd (cc placed)
-client_front c pos n (Publish d) first lines placed served same = absurd (cc placed)
-client_front c pos n (Probe d now) first lines placed served same = absurd (cc placed)
-client_front c pos n (Look e d) first lines placed served same = absurd (cc placed)
-client_front c pos n (Arm e m) first lines placed served same = absurd (cc placed)
-client_front c pos n (Draw e) first lines placed served same = absurd (cc placed)
-client_front c pos n (Ask d request) first lines placed served same = absurd served
+client_front c pos n (Ask d request) first lines placed served same = absurd (cc served)
+client_front c pos n _ first lines placed served same = absurd (cc placed)
 
 -- a line is that of its number and act
 whole_line : (line : Line) → line.actor ≡ actor_in line.act → line_of line.number line.act ≡ line
@@ -129,23 +113,9 @@ CallOf k None = Unit {0}
 CallOf k (Some line) = IsCall k line.ask
 
 call_of : (k : Setup) (n : ℕ) (act : Act) → IsLawful k.drivers k.clients act → CallOf k (client_asked n act)
-call_of k n (Cell saved term) lawful = tt
-call_of k n (Lead d now) lawful = tt
-call_of k n (Tick d now) lawful = tt
-call_of k n (Resign d) lawful = tt
 call_of k n (Take c d m) lawful = (omega (arith, lawful.1.0.low), lawful.1.0.high, omega (arith, lawful.1.1.0.low), omega (arith, lawful.1.1.0.high))
 call_of k n (Tell c to) lawful = (omega (arith, lawful.1.0.low), lawful.1.0.high)
-call_of k n (Hear c) lawful = tt
-call_of k n (Read d now) lawful = tt
-call_of k n (Campaign d) lawful = tt
-call_of k n (Save d) lawful = tt
-call_of k n (Raise d) lawful = tt
-call_of k n (Publish d) lawful = tt
-call_of k n (Probe d now) lawful = tt
-call_of k n (Look c d) lawful = tt
-call_of k n (Arm c m) lawful = tt
-call_of k n (Draw c) lawful = tt
-call_of k n (Ask d request) lawful = tt
+call_of k n _ lawful = tt
 
 call_front : (k : Setup) (one : Option ClientLine) (rest : List ClientLine) → CallOf k one → AllByRecursion (λ (line : ClientLine). IsCall k line.ask) rest → AllByRecursion (λ (line : ClientLine). IsCall k line.ask) (cons_option one rest)
 call_front k None rest call all = all
