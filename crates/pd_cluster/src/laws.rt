@@ -1,0 +1,107 @@
+// What the definitions of an outcome give, by themselves.
+ghost use Rattle.std.specs.Prelude.{◌≡◌, ◌<◌, ◌^◌, [], ◌∷◌, ℕ, codes, map, Some, None};
+ghost use Rattle.std.specs.Fmt.{decimal};
+ghost use Rattle.pd_types.specs.declared.oracle.Actor.TheVariants.{Driver, Client};
+ghost use Rattle.pd_script.specs.declared.act.Act.TheVariants as acts;
+ghost use Rattle.pd_cluster.specs.Answers.{Answer};
+ghost use Rattle.pd_cluster.specs.Command.{command_of};
+ghost use Rattle.pd_cluster.specs.Number.{status_number};
+ghost use Rattle.pd_cluster.specs.Replay.{answers_of};
+ghost use Rattle.pd_cluster.specs.declared.command.Command.TheVariants.{Replay, Run, Tso};
+ghost use Rattle.pd_cluster.specs.declared.said.Said.TheVariants.{ByOracle};
+ghost use Rattle.pd_cluster.specs.declared.status.Status.TheVariants.{Done, Usage, Refused, ReadFault, WriteFault, NoMemory, Limit};
+ghost use Rattle.tso_core.specs.declared.reply.Due.TheVariants as dues;
+ghost use Rattle.tso_core.specs.declared.reply.Reply.TheVariants as replies;
+
+/// The exit status of each end.
+pub fn the_exit_statuses()
+    ensures done { status_number Done ≡ 0 }
+    ensures usage { status_number Usage ≡ 1 }
+    ensures refused { status_number Refused ≡ 2 }
+    ensures unread { status_number ReadFault ≡ 3 }
+    ensures unwritten { status_number WriteFault ≡ 4 }
+    ensures memory { status_number NoMemory ≡ 5 }
+    ensures limit { status_number Limit ≡ 6 }
+{}
+
+/// The words of a command line: two commands of one word, and one of two. All else is no command.
+pub fn the_commands()
+    ensures replay { command_of (codes "replay" ∷ []) ≡ Some Replay }
+    ensures run { command_of (codes "run" ∷ []) ≡ Some Run }
+    ensures tso { (n : ℕ) → n < 2 ^ 64 → command_of (codes "tso" ∷ decimal n ∷ []) ≡ Some (Tso n) }
+    ensures none { command_of [] ≡ None }
+    ensures other { command_of (codes "gen" ∷ []) ≡ None }
+    ensures alone { command_of (codes "tso" ∷ []) ≡ None }
+    ensures more { command_of (codes "replay" ∷ codes "run" ∷ []) ≡ None }
+{}
+
+/// A lead, a draw of three timestamps, a second driver, a note that outdates the client that hears it,
+/// and the first driver's tick, by which it learns that its term is over.
+pub fn an_outdated_driver_is_answered()
+    ensures answers { map (λ (answer : Answer). answer.said) (answers_of (record {
+      drivers = 2;
+      clients = 2;
+      lines =
+          record { number = 1; actor = Some (Driver 1); act = acts.Lead 1 1000 }
+          ∷ record { number = 2; actor = Some (Client 1); act = acts.Take 1 1 3 }
+          ∷ record { number = 3; actor = Some (Driver 2); act = acts.Lead 2 500 }
+          ∷ record { number = 4; actor = Some (Client 2); act = acts.Take 2 2 1 }
+          ∷ record { number = 5; actor = Some (Client 1); act = acts.Take 1 1 2 }
+          ∷ record { number = 6; actor = Some (Client 1); act = acts.Hear 1 }
+          ∷ record { number = 7; actor = Some (Client 2); act = acts.Tell 2 1 }
+          ∷ record { number = 8; actor = Some (Client 1); act = acts.Hear 1 }
+          ∷ record { number = 9; actor = Some (Client 1); act = acts.Take 1 1 1 }
+          ∷ record { number = 10; actor = Some (Driver 1); act = acts.Tick 1 3999 }
+          ∷ record { number = 11; actor = Some (Client 2); act = acts.Take 2 1 1 } ∷ [];
+    }))
+        ≡ ByOracle (replies.Won 1 1000 4000)
+        ∷ ByOracle (replies.Got (record { term = 1; driver = 1; last = 262144003; count = 3 }))
+        ∷ ByOracle (replies.Won 2 4001 7001)
+        ∷ ByOracle (replies.Got (record { term = 2; driver = 2; last = 1048838145; count = 1 }))
+        ∷ ByOracle (replies.Got (record { term = 1; driver = 1; last = 262144005; count = 2 }))
+        ∷ ByOracle replies.Nothing
+        ∷ ByOracle replies.Told
+        ∷ ByOracle (replies.Heard (record { term = 2; last = 1048838145 }))
+        ∷ ByOracle (replies.Stale 2)
+        ∷ ByOracle (replies.Lost (record { saved = 7001; term = 2 }))
+        ∷ ByOracle replies.NotLeader ∷ [] }
+{}
+
+/// Each single step is the step that its line names: a race of two drivers, and a draw.
+pub fn single_steps_are_answered()
+    ensures answers { map (λ (answer : Answer). answer.said) (answers_of (record {
+      drivers = 2;
+      clients = 1;
+      lines =
+          record { number = 1; actor = Some (Driver 1); act = acts.Read 1 1000 }
+          ∷ record { number = 2; actor = Some (Driver 2); act = acts.Read 2 2000 }
+          ∷ record { number = 3; actor = Some (Driver 2); act = acts.Campaign 2 }
+          ∷ record { number = 4; actor = Some (Driver 1); act = acts.Campaign 1 }
+          ∷ record { number = 5; actor = Some (Driver 1); act = acts.Read 1 1000 }
+          ∷ record { number = 6; actor = Some (Driver 1); act = acts.Campaign 1 }
+          ∷ record { number = 7; actor = Some (Driver 2); act = acts.Save 2 }
+          ∷ record { number = 8; actor = Some (Driver 2); act = acts.Publish 2 }
+          ∷ record { number = 9; actor = Some (Driver 1); act = acts.Save 1 }
+          ∷ record { number = 10; actor = Some (Driver 1); act = acts.Raise 1 }
+          ∷ record { number = 11; actor = Some (Driver 1); act = acts.Publish 1 }
+          ∷ record { number = 12; actor = Some (Driver 1); act = acts.Raise 1 }
+          ∷ record { number = 13; actor = Some (Client 1); act = acts.Look 1 1 }
+          ∷ record { number = 14; actor = Some (Client 1); act = acts.Arm 1 100 }
+          ∷ record { number = 15; actor = Some (Client 1); act = acts.Draw 1 } ∷ [];
+    }))
+        ≡ ByOracle (replies.CellRead (record { saved = 0; term = 0 }))
+        ∷ ByOracle (replies.CellRead (record { saved = 0; term = 0 }))
+        ∷ ByOracle (replies.Claimed 1)
+        ∷ ByOracle (replies.Beaten (record { saved = 0; term = 1 }))
+        ∷ ByOracle (replies.CellRead (record { saved = 0; term = 1 }))
+        ∷ ByOracle (replies.Claimed 2)
+        ∷ ByOracle (replies.Lost (record { saved = 0; term = 2 }))
+        ∷ ByOracle (replies.Published 0)
+        ∷ ByOracle (replies.Saved 4000)
+        ∷ ByOracle (replies.Raised 262144000)
+        ∷ ByOracle (replies.Published 4000)
+        ∷ ByOracle (replies.OutOfTurn dues.Rest)
+        ∷ ByOracle (replies.Looked 2 4000)
+        ∷ ByOracle (replies.Armed 262144000)
+        ∷ ByOracle (replies.Got (record { term = 2; driver = 1; last = 262144100; count = 100 })) ∷ [] }
+{}
