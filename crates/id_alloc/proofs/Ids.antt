@@ -1,5 +1,5 @@
 -- No id is taken twice.
-use Rattle.std.proofs.Common.{refl, ◌≡◌, ◌≢◌, ℕ, suc, ◌+◌, ◌<◌, ◌≤◌, true, false, List, [], ◌∷◌, ◌++◌, All, ◌⊎◌, inl, inr, ap, sym, ◌∙◌, subst, arith}
+use Rattle.std.proofs.Common.{refl, ◌≡◌, ◌≢◌, ℕ, suc, ◌+◌, ◌<◌, ◌≤◌, ◌^◌, true, false, List, [], ◌∷◌, ◌++◌, All, ◌⊎◌, inl, inr, ap, sym, ◌∙◌, subst, arith}
 use Rattle.std.specs.Fmt.{decimal}
 use Rattle.std.specs.List.{AllPairs}
 use Rattle.std.proofs.lemmas.Bool.Decides.{nat_tests}
@@ -14,7 +14,7 @@ use Rattle.meta_store.specs.Cells.{revision_in}
 use Rattle.meta_store.specs.Past.{counter_of, entry_of, record_of, records_of, verdict_of}
 use Rattle.meta_store.proofs.Verdicts.{put_counted}
 use Rattle.id_alloc.specs.Runs.{Draws, IsMove, IsRun, Leads, Passes, State, talk_of}
-use Rattle.id_alloc.specs.Windows.{Hears, IsQuiet, TakesLeft, TakesSaved, Window, end_in, id_call, id_key, is_used_up, window_in}
+use Rattle.id_alloc.specs.Windows.{Hears, IsQuiet, TakesLeft, TakesSaved, Window, end_in, id_call, id_key, is_spent, is_used_up, window_in}
 use Rattle.id_alloc.proofs.Asked.{counter_grows, end_of, end_read, heard_past, heard_verdict, passed_record, put_expected, put_revision, quiet_past, rev_of, saved_record, window_found}
 
 -- a window, beside the end and the revision that the record tells and the number of writes
@@ -130,7 +130,7 @@ holds_left past front w back v ids id t h =
     let free = All-head (IsFree ids) w back (all_right (IsFree ids) front (w ∷ back) h.free) in
     let end : v.end ≡ w.end = ap (λ (x : Window). x.end) t.now in
     let rev : v.revision ≡ w.revision = ap (λ (x : Window). x.revision) t.now in
-    let taken : v.taken ≡ id = ap (λ (x : Window). x.taken) t.now in
+    let taken : v.taken ≡ id = ap (λ (x : Window). x.taken) t.now ∙ sym t.next in
     let other : w.taken ≢ w.end = λ is. (let used : is_used_up w ≡ true = grind (arith, nat_tests, is) in absurd (let two : true ≡ false = sym used ∙ t.left in cc)) in
     let next : id ≡ w.taken + 1 = t.next in
     let inside : id ≤ w.end = omega (arith, g.within, other, next) in
@@ -150,6 +150,10 @@ holds_left past front w back v ids id t h =
       seen = h.seen;
     }
 
+-- a window that isn't spent has one behind it that ends in the range
+below_end : (w : Window) → is_spent w ≡ false → w.end + 1000 < 2 ^ 64
+below_end w room = grind (arith, nat_tests, room)
+
 -- a window that is saved first
 holds_saved : (past : List MetaEntry) (front : List Window) (w : Window) (back : List Window) (v : Window) (ids : List ℕ) (id driver term revision : ℕ)
     → TakesSaved w v revision id → verdict_of past (id_call term w) ≡ verdicts.Accepted revision → Holds past (front ++ w ∷ back) ids
@@ -162,11 +166,11 @@ holds_saved past front w back v ids id driver term revision t accepted h =
     let counted : counter_of (entry ∷ past) ≡ counter_of past + 1 = put_counted past driver term w.revision revision id_key (decimal (w.end + 1000)) in
     let number : revision ≡ counter_of past + 1 = put_revision past term id_key w.revision (decimal (w.end + 1000)) revision accepted in
     let left = saved_record past driver term w.revision (w.end + 1000) revision in
-    let end : end_of (entry ∷ past) ≡ w.end + 1000 = ap end_in left ∙ end_read (w.end + 1000) (omega (arith, t.room)) in
+    let end : end_of (entry ∷ past) ≡ w.end + 1000 = ap end_in left ∙ end_read (w.end + 1000) (below_end w t.room) in
     let rev : rev_of (entry ∷ past) ≡ counter_of past + 1 = ap revision_in left in
     let v_end : v.end ≡ w.end + 1000 = ap (λ (x : Window). x.end) t.now in
     let v_rev : v.revision ≡ revision = ap (λ (x : Window). x.revision) t.now in
-    let v_taken : v.taken ≡ id = ap (λ (x : Window). x.taken) t.now in
+    let v_taken : v.taken ≡ id = ap (λ (x : Window). x.taken) t.now ∙ sym t.next in
     let next : id ≡ w.end + 1 = t.next in
     record {
       good = all_replaced (IsGood (end_of past) (rev_of past) (counter_of past)) (IsGood (end_of (entry ∷ past)) (rev_of (entry ∷ past)) (counter_of (entry ∷ past))) front w v back

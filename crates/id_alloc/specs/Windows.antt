@@ -1,5 +1,5 @@
 -- Windows of ids (PD's id allocator: the end of a window is saved before an id of it is used; a thousand ids a window).
-use Rattle.std.specs.Prelude.{◌≡◌, ◌⊎◌, ℕ, ◌+◌, ◌<◌, ◌≤◌, ◌^◌, nat_eq, List, [], ◌∷◌, ◌++◌, codes, Bool, true, false, Option, Some, None}
+use Rattle.std.specs.Prelude.{◌≡◌, ◌⊎◌, ℕ, ◌+◌, ◌^◌, nat_eq, nat_le, List, [], ◌∷◌, ◌++◌, codes, Bool, true, false, Option, Some, None}
 use Rattle.std.specs.Fmt.{decimal}
 use Rattle.pd_lines.specs.Numeral.{number_of}
 use Rattle.meta_store.specs.declared.record.Cell.{Cell}
@@ -42,22 +42,34 @@ window_in cells = record { end = end_in (cell_at id_key cells); revision = revis
 abbrev pub is_used_up : Window → Bool
 is_used_up window = nat_eq window.taken window.end
 
+-- the next window would end at 2^63 or later, so that there is none
+abbrev pub is_spent : Window → Bool
+is_spent window = nat_le (2 ^ 63) (window.end + 1000)
+
 -- the write that saves the next window: a thousand ids more, where the record is as it was known
 abbrev pub id_call : ℕ → Window → MetaCall
 id_call term window = calls.Put term id_key window.revision (decimal (window.end + 1000))
+
+-- the window with its next id taken
+abbrev pub with_next : Window → Window
+with_next window = record { end = window.end; revision = window.revision; taken = window.taken + 1 }
+
+-- the next window, saved at this revision, with the first of its ids taken
+abbrev pub with_saved : Window → ℕ → Window
+with_saved window revision = record { end = window.end + 1000; revision = revision; taken = window.end + 1 }
 
 -- the next id is one that was left
 pub record TakesLeft (old new : Window) (id : ℕ) : Type 0 where
   pub left : is_used_up old ≡ false
   pub next : id ≡ old.taken + 1
-  pub now : new ≡ record { end = old.end; revision = old.revision; taken = id }
+  pub now : new ≡ with_next old
 
 -- the window was used up, and another of a thousand was saved at this revision; the next id is its first
 pub record TakesSaved (old new : Window) (revision id : ℕ) : Type 0 where
   pub used : is_used_up old ≡ true
-  pub room : old.end + 1000 < 2 ^ 63
+  pub room : is_spent old ≡ false
   pub next : id ≡ old.end + 1
-  pub now : new ≡ record { end = old.end + 1000; revision = revision; taken = id }
+  pub now : new ≡ with_saved old revision
 
 -- what a door said and told, before a call and after it
 pub record Talk : Type 0 where
@@ -85,13 +97,13 @@ Takes old new talk driver term id =
 -- the next window was asked for, and the door answered this
 pub record IsRefused (old : Window) (talk : Talk) (driver term : ℕ) (verdict : MetaVerdict) : Type 0 where
   pub used : is_used_up old ≡ true
-  pub room : old.end + 1000 < 2 ^ 63
+  pub room : is_spent old ≡ false
   pub heard : Hears talk driver (id_call term old) verdict
 
 -- no window is left below 2^63, and nothing was asked
 pub record IsSpent (old : Window) (talk : Talk) : Type 0 where
   pub used : is_used_up old ≡ true
-  pub full : 2 ^ 63 ≤ old.end + 1000
+  pub full : is_spent old ≡ true
   pub quiet : IsQuiet talk
 
 -- why no id is taken: the door's own answer in this call, or the number; want of memory asks nothing that is answered

@@ -1,5 +1,5 @@
 use crate::{IdFault, IdWindow};
-use meta_store::{Meta, id_text};
+use meta_store::{Meta, MetaCall, id_text};
 use std::test::Fail;
 
 // Two windows of one lead, and one of a later lead: the first ids of each, by hand. The second
@@ -75,5 +75,33 @@ fn an_end_that_does_not_read_is_the_first(rt: HostRuntime) -> Result<(), Fail> {
     assert_eq!(rt; meta.put_if(1, 0, b"ie", 0, b"7"), Ok(2));
     let mut window = IdWindow::of(&meta.lead(1, 1)?);
     assert_eq!(rt; window.next(alloc, &mut meta, 1, 1), Ok(1_000_001));
+    Ok(())
+}
+
+// A caller that makes the write itself: the first window's write, spelled out, and its first ids.
+#[test]
+fn a_caller_makes_the_write_itself(rt: HostRuntime) -> Result<(), Fail> {
+    let alloc = rt.alloc();
+    let mut meta = Meta::new(alloc);
+    let mut window = IdWindow::of(&meta.lead(1, 1)?);
+    assert!(rt; window.is_used_up());
+    assert!(rt; !window.is_spent());
+    let call = window.call(alloc, 1)?;
+    let MetaCall::Put {
+        term,
+        key,
+        expected,
+        bytes,
+    } = call
+    else {
+        return Err(Fail::new("no write"));
+    };
+    assert_eq!(rt; (term, expected), (1, 0));
+    assert_eq!(rt; key.as_slice(), b"id".as_slice());
+    assert_eq!(rt; bytes.as_slice(), b"1001000".as_slice());
+    let revision = meta.put_if(1, term, key.as_slice(), expected, bytes.as_slice())?;
+    assert_eq!(rt; window.save(revision), 1_000_001);
+    assert!(rt; !window.is_used_up());
+    assert_eq!(rt; window.take(), 1_000_002);
     Ok(())
 }

@@ -1,13 +1,14 @@
 // A window of ids.
-ghost use Rattle.std.specs.Prelude.{◌≡◌, ◌+◌, ◌<◌, ◌≤◌, ◌^◌, [], ◌∷◌, ◌++◌, Some, true, option_copied, IfOk, IfErr, OnErr};
+ghost use Rattle.std.specs.Prelude.{◌≡◌, ◌+◌, ◌<◌, ◌≤◌, ◌^◌, [], ◌∷◌, ◌++◌, Some, false, true, option_copied, IfOk, IfErr, OnErr};
 ghost use Rattle.std.specs.Fmt.{decimal};
 ghost use Rattle.meta_store.specs.declared.record.MetaVerdict.TheVariants as verdicts;
 ghost use Rattle.meta_store.specs.Cells.{cell_at, revision_in};
 ghost use Rattle.meta_store.specs.Doors.{Serves};
-ghost use Rattle.id_alloc.specs.Windows.{Refuses, Takes, end_in, id_call, id_key, is_used_up, window_in};
+ghost use Rattle.id_alloc.specs.Windows.{Refuses, Takes, end_in, id_call, id_key, is_spent, is_used_up, window_in, with_next, with_saved};
 
 use crate::IdFault;
-use meta_store::{Cell, Cells, Door, MetaFault, id_text, read_id_text};
+use meta_store::{Cell, Cells, Door, MetaCall, MetaFault, id_text, read_id_text};
+use pd_types::{Bytes, NoMemory};
 use std::alloc::Global;
 use std::marker::Model;
 
@@ -93,11 +94,64 @@ impl IdWindow {
         ensures err { OnErr result (self.new ≡ self.old) }
         ensures place { M.place door.new ≡ M.place door.old }
     {
-        if self.taken == self.end {
+        if self.is_used_up() {
             return self.renew(alloc, door, driver, term);
         }
+        Ok(self.take())
+    }
+
+    /// Whether no id of the window is left.
+    pub fn is_used_up(&self) -> bool
+        ensures value { result ≡ is_used_up self.now }
+    {
+        self.taken == self.end
+    }
+
+    /// Whether the next window would end at 2^63 or later, so that there is none.
+    pub fn is_spent(&self) -> bool
+        ensures value { result ≡ is_spent self.now }
+    {
+        self.end >= (1 << 63) - WINDOW
+    }
+
+    /// Takes the next id of a window that isn't used up.
+    pub fn take(&mut self) -> u64
+        requires left { is_used_up self.old ≡ false }
+        ensures value { self.new ≡ with_next self.old }
+        ensures id { result ≡ self.old.taken + 1 }
+    {
         self.taken += 1;
-        Ok(self.taken)
+        self.taken
+    }
+
+    /// The write that saves the next window: its end, at the known revision. For a caller that makes
+    /// the write itself, and then calls `save` with the revision that it was accepted at.
+    pub fn call(&self, alloc: Global, term: u64) -> Result<MetaCall, NoMemory>
+        requires room { is_spent self.now ≡ false }
+        ensures value { IfOk result (λ call. call ≡ id_call term self.now) }
+    {
+        Ok(MetaCall::Put {
+            term,
+            key: Bytes::of(Vec::from_slice(alloc, b"id")?),
+            expected: self.revision,
+            bytes: id_text(alloc, self.end + WINDOW)?,
+        })
+    }
+
+    /// Goes over to the next window, whose write was accepted at this revision, and takes its first id.
+    pub fn save(&mut self, revision: u64) -> u64
+        requires used { is_used_up self.old ≡ true }
+        requires room { is_spent self.old ≡ false }
+        ensures value { self.new ≡ with_saved self.old revision }
+        ensures id { result ≡ self.old.end + 1 }
+    {
+        let id = self.end + 1;
+        *self = IdWindow {
+            end: self.end + WINDOW,
+            revision,
+            taken: id,
+        };
+        id
     }
 
     // Saves the next window, and takes its first id.
@@ -115,23 +169,14 @@ impl IdWindow {
         ensures err { OnErr result (self.new ≡ self.old) }
         ensures place { M.place door.new ≡ M.place door.old }
     {
-        if self.end >= (1 << 63) - WINDOW {
+        if self.is_spent() {
             return Err(IdFault::Spent);
         }
-        let end = self.end + WINDOW;
-        let Ok(text) = id_text(alloc, end) else {
+        let Ok(text) = id_text(alloc, self.end + WINDOW) else {
             return Err(IdFault::NoMemory);
         };
         match door.put_if(driver, term, b"id", self.revision, text.as_slice()) {
-            Ok(revision) => {
-                let id = self.end + 1;
-                *self = IdWindow {
-                    end,
-                    revision,
-                    taken: id,
-                };
-                Ok(id)
-            }
+            Ok(revision) => Ok(self.save(revision)),
             Err(MetaFault::OldTerm { fence }) => Err(IdFault::OldTerm { fence }),
             Err(MetaFault::Conflict { found }) => Err(IdFault::Conflict { found }),
             Err(MetaFault::Limit) => Err(IdFault::Limit),

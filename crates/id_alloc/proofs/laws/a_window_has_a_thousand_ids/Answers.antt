@@ -39,4 +39,4 @@ pub returns-clause-call : goal.returns-clause-call
 returns-clause-call c = ap (λ (d : List ℕ). let call : MetaCall = calls.Put 7 (codes "id") 5 d in call) second
 
 pub returns-clause-spent : goal.returns-clause-spent
-returns-clause-spent c = λ old talk is. (grind (arith, nat_tests, is.used), omega (arith, is.full))
+returns-clause-spent c = λ old talk is. (grind (arith, nat_tests, is.used), grind (arith, nat_tests, is.full))
