@@ -3,7 +3,7 @@ ghost use Rattle.std.specs.Prelude.{◌≡◌, ℕ, ◌+◌, ◌-◌, ◌<◌, �
 ghost use Rattle.std.specs.Option.{option_copied};
 ghost use Rattle.pd_types.specs.BeatCheck.{first_fault, is_below};
 ghost use Rattle.pd_types.specs.declared.region.RegionBeat.{RegionBeat};
-ghost use Rattle.region_tree.specs.Cover.{CoverAll};
+ghost use Rattle.region_tree.specs.Cover.{CoverAll, covers_all};
 ghost use Rattle.region_tree.specs.Moves.{CountMoves, displaced_by};
 ghost use Rattle.region_tree.specs.Places.{IsIndex, IsPlace, IsRun};
 ghost use Rattle.region_tree.specs.Ranges.{HasRange, holds};
@@ -241,6 +241,7 @@ impl Regions {
     /// Whether each key is in the range of a region.
     pub fn covers_all(&self) -> bool
         ensures value { IsTrue result ↔ CoverAll self.now }
+        ensures test { result ≡ covers_all self.now }
     {
         covers_all(&self.held)
     }
