@@ -11,3 +11,5 @@ pub mod LawLemmas
 pub mod IdLemmas
 pub mod PickLemmas
 pub mod ConstraintLemmas
+pub mod Members
+pub mod WayLemmas

@@ -9,3 +9,4 @@ pub mod Trail
 pub mod Search
 pub mod Fit
 pub mod Isolation
+pub mod Ways

@@ -14,6 +14,7 @@ ghost use Rattle.rule_fit.specs.Suits.{is_among, labels_of, passes, peer_suits, 
 ghost use Rattle.rule_fit.specs.Assignment.{Fits};
 ghost use Rattle.rule_fit.specs.Certificate.{Certifies, IsMisfitNumber};
 ghost use Rattle.rule_fit.specs.Fit.{IsOfItsKind};
+ghost use Rattle.rule_fit.specs.Ways.{misfit_number};
 ghost use Rattle.rule_fit.specs.declared.answer.Certificate.{Certificate};
 ghost use Rattle.rule_fit.specs.declared.answer.Certificate.TheVariants.{Totals, Peers};
 
@@ -23,13 +24,15 @@ pub fn certificate_refutes()
 {}
 
 /// There is one misfit number, and it is 0 exactly where there is a fit. Without peers it is the sum
-/// of the counts, and without rules the number of peers.
+/// of the counts, and without rules the number of peers. It is what is missing in the best of all ways
+/// to give the peers rules.
 pub fn one_misfit_number()
     ensures one { (test : ℕ → ℕ → Bool) (peers : ℕ) (counts : List ℕ) (m n : ℕ) → IsMisfitNumber test peers counts m → IsMisfitNumber test peers counts n → m ≡ n }
     ensures zero_fits { (test : ℕ → ℕ → Bool) (peers : ℕ) (counts : List ℕ) (n : ℕ) → IsMisfitNumber test peers counts n → n ≡ 0 → Fits test peers counts }
     ensures fits_zero { (test : ℕ → ℕ → Bool) (peers : ℕ) (counts : List ℕ) (n : ℕ) → IsMisfitNumber test peers counts n → Fits test peers counts → n ≡ 0 }
     ensures no_peers { (test : ℕ → ℕ → Bool) (counts : List ℕ) (n : ℕ) → IsMisfitNumber test 0 counts n → n ≡ sum counts }
     ensures no_rules { (test : ℕ → ℕ → Bool) (peers n : ℕ) → IsMisfitNumber test peers [] n → n ≡ peers }
+    ensures ways { (test : ℕ → ℕ → Bool) (peers : ℕ) (counts : List ℕ) (n : ℕ) → IsMisfitNumber test peers counts n ↔ (n ≡ misfit_number test peers counts) }
 {}
 
 /// The certificate of a misfit: the totals where they differ, and peers only where they don't.

@@ -1,4 +1,5 @@
 use Rattle.rule_fit.proofs.LawLemmas.{one_number, number_alone, number_fits, number_free, fit_number}
+use Rattle.rule_fit.proofs.WayLemmas.{misfit_is}
 use Rattle.rule_fit.proofs.laws.one_misfit_number.Goals as goal
 
 pub returns-clause-one : goal.returns-clause-one
@@ -15,3 +16,6 @@ returns-clause-no_peers c = number_alone
 
 pub returns-clause-no_rules : goal.returns-clause-no_rules
 returns-clause-no_rules c = number_free
+
+pub returns-clause-ways : goal.returns-clause-ways
+returns-clause-ways c = misfit_is
