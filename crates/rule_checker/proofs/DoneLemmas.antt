@@ -1,7 +1,6 @@
 -- What the steps of a candidate leave.
-use Rattle.std.proofs.Common.{◌≡◌, ◌≢◌, ◌<◌, ℕ, zero, suc, Bool, true, false, not, ◌&&◌, ◌==◌, List, [], ◌∷◌, ◌++◌, map, filter, length, get_or, Option, Some, None, All, Any, Contains, IsTrue, arith, refl, sym, ◌∙◌, subst, ap, true≢false, if◌then◌else◌}
+use Rattle.std.proofs.Common.{◌≡◌, ◌≢◌, ◌<◌, ℕ, zero, suc, Bool, true, false, not, ◌&&◌, ◌==◌, List, [], ◌∷◌, ◌++◌, map, filter, length, get_or, Option, Some, None, Any, Contains, IsTrue, arith, refl, sym, ◌∙◌, subst, ap, true≢false, if◌then◌else◌}
 use Rattle.std.specs.List.{list_any}
-use Rattle.std.proofs.lemmas.Bool.Decides.{nat_tests}
 use Rattle.std.proofs.lemmas.List.Elements.{Contains-push, filter_passes}
 use Rattle.std.proofs.lemmas.List.Folds.{list_any_at, list_any_none}
 use Rattle.pd_types.specs.declared.region.Role.TheVariants as roles
@@ -16,9 +15,9 @@ use Rattle.op_step.specs.Peers.{has_peer, has_store, is_peer, is_target}
 use Rattle.op_step.specs.Votes.{is_voter}
 use Rattle.op_step.specs.Wishes.{may_lead, next_leader}
 use Rattle.op_step.proofs.NextLemmas.{next-is-least}
-use Rattle.op_step.proofs.CarriedLemmas.{apart, both, denied, new_learner, same_number, unequal}
+use Rattle.op_step.proofs.CarriedLemmas.{both, denied, new_learner, same_number, unequal}
 use Rattle.rule_checker.specs.declared.class.Class.TheVariants.{Promote, Transfer, AddVoter, AddLearner, Remove}
-use Rattle.rule_checker.specs.Candidates.{after_all, lead_part, new_on, new_peers, pool, steps_of}
+use Rattle.rule_checker.specs.Candidates.{after_all, lead_part, new_on, pool, steps_of}
 use Rattle.rule_checker.proofs.RepairLemmas.{voter_comes}
 
 -- what a list holds is held, changed, by the changed list

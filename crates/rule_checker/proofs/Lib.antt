@@ -10,3 +10,4 @@ pub mod BeatLemmas
 mod RepairLemmas
 mod WordLemmas
 mod DoneLemmas
+pub mod TellLemmas

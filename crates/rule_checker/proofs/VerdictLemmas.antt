@@ -1,12 +1,11 @@
 -- The verdict on a region that crosses no border.
-use Rattle.std.proofs.Common.{◌≡◌, ◌≤◌, ℕ, Bool, true, false, List, [], ◌∷◌, length, arith, subst, Result, Ok, Err, IfOk, if◌then◌else◌, ◌&&◌, not}
-use Rattle.std.proofs.lemmas.List.Elements.{All-from_recursion, recursion_from_All}
-use Rattle.std.specs.List.{All, Contains, list_any, AllByRecursion}
+use Rattle.std.proofs.Common.{◌≡◌, ℕ, List, [], arith, subst, Result, Ok, Err, IfOk}
+use Rattle.std.specs.List.{Contains}
 use Rattle.pd_types.specs.declared.memory.NoMemory.{NoMemory}
 use Rattle.pd_types.specs.declared.rule.Rule.{Rule}
 use Rattle.pd_types.specs.declared.region.RegionBeat.{RegionBeat}
 use Rattle.store_table.specs.declared.entry.StoreEntry.{StoreEntry}
-use Rattle.rule_set.specs.InForce.{rules_at, holds, hides}
+use Rattle.rule_set.specs.InForce.{rules_at}
 use Rattle.rule_set.specs.Borders.{IsBorder}
 use Rattle.rule_checker.specs.declared.verdict.Verdict.{Verdict}
 use Rattle.rule_checker.specs.declared.verdict.Verdict.TheVariants.{NeedsSplit, NoFault, Plan, NoPlan}

@@ -1,5 +1,5 @@
 -- The candidates and their order in words.
-use Rattle.std.proofs.Common.{◌≡◌, ◌≢◌, ◌↔◌, ◌<◌, ℕ, Bool, true, false, not, ◌&&◌, ◌||◌, ◌==◌, nat_lt, List, length, sum, get_or, Option, Some, None, is_some, All, Any, Contains, IsTrue, arith, refl, sym, ◌∙◌, subst, ap, true≢false}
+use Rattle.std.proofs.Common.{◌≡◌, ◌≢◌, ◌↔◌, ◌<◌, ℕ, Bool, true, false, not, ◌&&◌, ◌||◌, ◌==◌, nat_lt, List, length, sum, get_or, Option, Some, None, is_some, All, Any, IsTrue, arith, refl, sym, ◌∙◌, ap, true≢false}
 use Rattle.std.proofs.lemmas.Bool.Decides.{nat_tests}
 use Rattle.std.proofs.lemmas.List.Folds.{list_any_at, list_any_none}
 use Rattle.pd_types.specs.declared.region.Role.TheVariants as roles
@@ -18,7 +18,7 @@ use Rattle.op_step.proofs.NextLemmas.{next-is-least}
 use Rattle.op_step.proofs.CarriedLemmas.{apart, both, denied, same_number, unequal}
 use Rattle.rule_fit.specs.Suits.{counts_of}
 use Rattle.rule_checker.specs.declared.class.Class.TheVariants.{Promote, Transfer, AddVoter, Remove}
-use Rattle.rule_checker.specs.Candidates.{may_come, may_go, passes}
+use Rattle.rule_checker.specs.Candidates.{passes}
 use Rattle.rule_checker.specs.Ranks.{lesser_then}
 
 -- the lesser one goes first

@@ -6,3 +6,4 @@ pub mod Best
 pub mod Shared
 pub mod Same
 pub mod Repairs
+pub mod Told

@@ -6,6 +6,7 @@ ghost use Rattle.rule_checker.specs.Plan.{FitsRules, HasNone, IsFirst, IsVerdict
 ghost use Rattle.rule_set.specs.InForce.{rules_at};
 ghost use Rattle.rule_checker.specs.Measure.{HasNumber};
 ghost use Rattle.rule_checker.specs.Ranks.{place_of};
+ghost use Rattle.rule_checker.specs.Told.{tells, told_of};
 ghost use Rattle.rule_checker.specs.declared.class.Class.{Class};
 
 use crate::best::best_of;
@@ -126,6 +127,7 @@ pub fn check(
     requires apart { AreApart beat.now.region.peers }
     ensures verdict { IfOk result (IsVerdict beat.now rules.now stores.now standing.now now) }
     ensures lowers { IfOk result (LowersNumber beat.now rules.now stores.now now) }
+    ensures tells { IfOk result (λ verdict. tells verdict ≡ told_of beat.now rules.now stores.now standing.now now) }
 {
     let keys = rules.borders(&beat.region)?;
     if !keys.is_empty() {
