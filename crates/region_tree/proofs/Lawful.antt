@@ -1,7 +1,7 @@
 -- The laws of ranges, staleness and the limit.
-use Rattle.std.proofs.Common.{refl, ◌≡◌, ◌≢◌, ℕ, suc, ◌+◌, ◌<◌, ◌≤◌, Bool, true, false, not, ◌&&◌, ◌||◌, cond, nat_eq, nat_lt, List, [], ◌∷◌, length, get_or, ap, sym, ◌∙◌, subst, Option, Some, None, arith, ◌⊎◌, inl, inr}
+use Rattle.std.proofs.Common.{refl, ◌≡◌, ◌≢◌, ℕ, ◌+◌, ◌<◌, ◌≤◌, Bool, true, false, not, ◌&&◌, ◌||◌, cond, nat_eq, nat_lt, List, [], ◌∷◌, length, get_or, ap, sym, ◌∙◌, subst, Option, Some, None, arith, ◌⊎◌, inl, inr}
 use Rattle.std.proofs.lemmas.Bool.Decides.{nat_tests}
-use Rattle.std.proofs.lemmas.List.Elements.{All-filter, All-head, All-tail, filter_passes}
+use Rattle.std.proofs.lemmas.List.Elements.{All-head, All-tail, filter_passes}
 use Rattle.std.specs.List.{All, filter, find}
 use Rattle.std.specs.Option.{option_map}
 use Rattle.pd_types.specs.BeatCheck.{is_below}
@@ -11,7 +11,6 @@ use Rattle.region_tree.specs.Ranges.{holds, overlaps, is_before_end, HasRange}
 use Rattle.region_tree.specs.Stale.{is_behind, is_behind_overlapped, or_else, put_beat, put_refusal, refusal_by, stale_by}
 use Rattle.region_tree.specs.Standing.{insert_by_key, stays}
 use Rattle.region_tree.specs.declared.fault.RegionFault.TheVariants as faults
-use Rattle.region_tree.specs.declared.table.TheConstants.{MOST_REGIONS}
 use Rattle.region_tree.proofs.Keys.{holds_start, not_below_itself}
 use Rattle.region_tree.proofs.Order.{all_insert, stays_split}
 use Rattle.region_tree.proofs.Rows.{find_none}
