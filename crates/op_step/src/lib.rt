@@ -16,7 +16,7 @@ pub use laws::{
     a_target_is_live_and_up_to_date, a_transfer_changes_no_peer, a_wish_is_carried_out,
     the_first_fault_is_named, two_majorities_meet,
 };
-pub use peers::{has_store, is_learner, is_target};
+pub use peers::{has_id, has_store, is_learner, is_target};
 pub use regions::{after, conf_change, finished};
 pub use safety::{Held, Why, gate};
 pub use wishes::{BuildFault, Wish, build, may_lead, next_leader, with_id};

@@ -61,7 +61,7 @@ pub fn has_store(store: u64, beat: &RegionBeat) -> bool
 
 /// Whether the region has a peer of that id.
 pub fn has_id(id: u64, beat: &RegionBeat) -> bool
-    ensures { result ≡ has_id id beat.now }
+    ensures value { result ≡ has_id id beat.now }
 {
     for peer in beat.region.peers.as_slice() {
         if peer.id == id {
