@@ -139,6 +139,80 @@ fn serve_all(rt: &impl Abort, alloc: Global, lines: &str) -> Result<Cluster, Fai
     Ok(cluster)
 }
 
+// A request, made once more where memory is wanting.
+fn asked(alloc: Global, line: &str) -> Result<Request, NoMemory> {
+    request(alloc, line).or_else(|_| request(alloc, line))
+}
+
+// One request of each kind, in a term.
+const EACH_KIND: &str = r#"term 1 1000
+hello 1 1000
+alive 1 1001
+beat 1002 7 - - 1 1 11
+rule {"group_id":"pd","id":"x","role":"voter","count":1}
+unrule x
+retire"#;
+
+// Serves a request: it has its entry, or there is no memory for it, which leaves the journal, takes
+// the tables away and ends every later request so too. Tells whether it was served.
+fn serve_whole(
+    rt: &impl Abort,
+    alloc: Global,
+    cluster: &mut Cluster,
+    meta: &mut Meta,
+    line: &str,
+) -> Result<bool, Fail> {
+    let before = cluster.journal().len();
+    let request = asked(alloc, line)?;
+    if cluster.serve(Actor::Store(1), 7, request, meta).is_ok() {
+        assert_eq!(rt;
+            cluster.journal().len(),
+            before.saturating_add(1),
+            "at {line}"
+        );
+        return Ok(true);
+    }
+    assert!(rt; cluster.part().is_none(), "at {line}");
+    let later = cluster.serve(Actor::Store(1), 8, Request::Retire, meta);
+    assert!(rt; later.is_err(), "after {line}");
+    assert_eq!(rt; cluster.journal().len(), before, "at {line}");
+    Ok(false)
+}
+
+// With `rt try --test --fail-alloc N` the Nth allocation of each test fails. Whichever it is, the
+// cluster of a later term finds the store and the rule each whole in the metadata, or not at all.
+#[test]
+fn a_request_without_memory_leaves_the_journal(rt: HostRuntime) -> Result<(), Fail> {
+    let alloc = rt.alloc();
+    let mut meta = Meta::new(alloc);
+    let mut cluster = Cluster::new(alloc, 1);
+    for line in EACH_KIND.lines() {
+        if !serve_whole(&rt, alloc, &mut cluster, &mut meta, line)? {
+            break;
+        }
+    }
+    let is_whole = cluster.journal().len() == 7;
+    let mut later = Cluster::new(alloc, 2);
+    let reply = later.serve(Actor::Driver(2), 9, asked(alloc, "term 2 2000")?, &mut meta)?;
+    let Reply::Term {
+        term,
+        stores,
+        rules,
+    } = reply
+    else {
+        return Err(Fail::new("no term"));
+    };
+    assert_eq!(rt; term, 2);
+    assert!(rt;
+        if is_whole {
+            (stores, rules) == (1, 1)
+        } else {
+            stores <= 1 && rules <= 2
+        }
+    );
+    Ok(())
+}
+
 // The beginning of a term, stale and overlapping heartbeats, and one whose leader is no peer.
 const STALE_AND_OVERLAPPING: &str = "\
 term 1 1000 => term 1 stores 0 rules 1
