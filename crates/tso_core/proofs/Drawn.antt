@@ -10,8 +10,7 @@ use Rattle.tso_model.specs.Steps.{May, HasHand, AtRest}
 use Rattle.tso_model.proofs.CellA.{no_some}
 use Rattle.tso_core.specs.declared.reply.Due.TheVariants.{Rest, Arm, Draw}
 use Rattle.tso_core.specs.Whole.{Whole, place_of_client, view_at, found_by}
-use Rattle.tso_core.specs.Steps.{look_of, arm_of, draw_of}
-use Rattle.tso_core.specs.Rows.{due_at}
+use Rattle.tso_core.specs.Steps.{look_of, arm_of, draw_of, due_at}
 use Rattle.tso_core.specs.Sound.{IsClient, MayMake, IsSound}
 use Rattle.tso_core.proofs.Dues.{rests, arms, draws}
 use Rattle.tso_core.proofs.Kept.{client_sound}

@@ -1,7 +1,6 @@
 -- Each step of a driver may be made at its due, and keeps the invariant.
-use Rattle.std.proofs.Common.{◌≡◌, ◌≢◌, ◌⊎◌, ℕ, ◌+◌, ◌-◌, ◌*◌, ◌^◌, ◌<◌, ◌≤◌, max, true, false, cond, eqb, ltb, refl, sym, ap, subst, ◌∙◌, inl, inr, ⊎_elim, arith}
+use Rattle.std.proofs.Common.{◌≡◌, ◌⊎◌, ℕ, ◌+◌, ◌-◌, ◌*◌, ◌^◌, ◌<◌, ◌≤◌, max, true, false, cond, eqb, ltb, refl, sym, ap, subst, ◌∙◌, inl, inr, ⊎_elim, arith}
 use Rattle.std.specs.Prelude.{Option, None, Some}
-use Rattle.pd_types.specs.declared.oracle.CellWord.{CellWord}
 use Rattle.tso_model.specs.declared.entries.Claim.{Claim}
 use Rattle.tso_model.specs.declared.view.View.{View}
 use Rattle.tso_model.specs.declared.step.WordStep.{WordStep}
@@ -16,15 +15,15 @@ use Rattle.tso_core.specs.declared.turn.Turn.{Turn}
 use Rattle.tso_core.specs.declared.reply.Due.{Due}
 use Rattle.tso_core.specs.declared.reply.Due.TheVariants.{Rest, Campaign, Save, Raise, Publish, Arm, Draw}
 use Rattle.tso_core.specs.Done.{step_due}
-use Rattle.tso_core.specs.declared.reply.Reply.TheVariants.{TermsSpent, ClockRange, CellRead, Claimed, Beaten, Saved, Lost, Raised, Published, Probed, Idle, Resigned}
+use Rattle.tso_core.specs.declared.reply.Reply.TheVariants.{Claimed, Beaten, Saved, Lost, NotLeading, Resigned}
 use Rattle.tso_core.specs.Due.{at_rest}
 use Rattle.tso_model.specs.declared.plan.TheConstants.{AHEAD_MS}
-use Rattle.tso_model.specs.Plan.{end_of, past_clock, lead_next, tick_next, saves_for}
+use Rattle.tso_model.specs.Plan.{end_of, lead_next, tick_next}
 use Rattle.tso_core.specs.Whole.{Whole, view_at, turn_at, found_by, made, turned}
 use Rattle.tso_core.specs.declared.plan.Decided.{Decided}
-use Rattle.tso_core.specs.Steps.{read_decides, read_of, campaign_decides, campaign_of, save_decides, its_save, save_of, raise_decides, its_raise, raise_of, its_publish, publish_of, moves_to, goes_to, probe_decides, probe_of, resign_of}
+use Rattle.tso_core.specs.Steps.{decided, ends, goes, read_of, campaign_decides, campaign_of, save_decides, its_save, save_of, its_raise, raise_of, its_publish, publish_of, probe_decides, probe_of, resign_of}
 use Rattle.tso_core.specs.Sound.{IsDriver, IsSettled, MaySave, MayRaise, StandsAt, MayMake, IsSound}
-use Rattle.tso_core.proofs.Dues.{ne_test, in_clock, no_left, some_left}
+use Rattle.tso_core.proofs.Cases.{read_cases, goes_cases}
 use Rattle.tso_core.proofs.Kept.{next_view, driver_sound}
 use Rattle.tso_core.proofs.Bounds.{held_fits}
 use Rattle.tso_core.specs.Ready.{HeldFits}
@@ -63,25 +62,6 @@ not_true e = cc
 
 false_true : {A : Type 0} → false ≡ true → A
 false_true e = absurd (not_true e)
-
--- what each decision may be
-read_cases : (cell : CellWord) (now : ℕ) (P : Turn → Type 0) → P at_rest → (cell.term ≢ 262143 → end_of (lead_next cell.saved now) < 2 ^ 45 → P (record { due = Campaign; next = lead_next cell.saved now; publishes = true })) → P (read_decides cell now).turn
-read_cases cell now P rest goes =
-    by_bool (λ b. P (cond {A = Decided} b (record { reply = TermsSpent; turn = at_rest }) (cond {A = Decided} (past_clock (lead_next cell.saved now)) (record { reply = ClockRange; turn = at_rest }) (record { reply = CellRead cell; turn = record { due = Campaign; next = lead_next cell.saved now; publishes = true } }))).turn) (eqb cell.term 262143)
-    (λ _. rest)
-    (λ apart. by_bool (λ b. P (cond {A = Decided} b (record { reply = ClockRange; turn = at_rest }) (record { reply = CellRead cell; turn = record { due = Campaign; next = lead_next cell.saved now; publishes = true } })).turn) (past_clock (lead_next cell.saved now))
-    (λ _. rest) (λ test. goes (ne_test cell.term 262143 apart) (in_clock (lead_next cell.saved now) test)))
-
-moves_cases : (hi cursor next : ℕ) (P : Turn → Type 0) → P at_rest → (hi < end_of next → end_of next < 2 ^ 45 → P (record { due = Save; next = next; publishes = true })) → (next ≤ hi → P (record { due = Raise; next = next; publishes = false })) → P (moves_to hi cursor next).turn
-moves_cases hi cursor next P rest saves_next raises_next =
-    by_bool (λ b. P (cond {A = Decided} b (cond {A = Decided} (past_clock next) (record { reply = ClockRange; turn = at_rest }) (record { reply = Probed cursor; turn = record { due = Save; next = next; publishes = true } })) (record { reply = Probed cursor; turn = record { due = Raise; next = next; publishes = false } })).turn) (saves_for next hi)
-    (λ near. by_bool (λ b. P (cond {A = Decided} b (record { reply = ClockRange; turn = at_rest }) (record { reply = Probed cursor; turn = record { due = Save; next = next; publishes = true } })).turn) (past_clock next)
-    (λ _. rest) (λ test. saves_next (no_left next hi near) (in_clock next test)))
-    (λ far. raises_next (some_left next hi far))
-
-goes_cases : (hi cursor : ℕ) (o : Option ℕ) (P : Turn → Type 0) → P at_rest → ((next : ℕ) → hi < end_of next → end_of next < 2 ^ 45 → P (record { due = Save; next = next; publishes = true })) → ((next : ℕ) → next ≤ hi → P (record { due = Raise; next = next; publishes = false })) → P (goes_to hi cursor o).turn
-goes_cases hi cursor None P rest saves_next raises_next = rest
-goes_cases hi cursor (Some next) P rest saves_next raises_next = moves_cases hi cursor next P rest (saves_next next) (raises_next next)
 
 -- where a driver goes
 clock_at : (due : Due) (turn : Turn) (v : View) → HeldFits v → StandsAt due turn v → turn.next < 2 ^ 45
@@ -123,10 +103,10 @@ module _ (w : Whole) (s : IsSound w) (d : ℕ) (pos : 0 < d) (low : d ≤ w.setu
   read_sound now due =
       let n = found_by w d LoadCell in
       let settled = (stands Rest due).1 in
-      read_cases (cell_of n) now (λ turn. IsSound (turned (made w d LoadCell) d turn))
-      (kept LoadCell is_driver at_rest (refl, settled))
-      (λ apart clock. kept LoadCell is_driver (record { due = Campaign; next = lead_next (cell_of n).saved now; publishes = true })
-      (record { settled = settled; term = omega (arith, apart); above = omega arith; clock = clock }))
+      read_cases (λ (x : Decided). IsSound (turned (made w d LoadCell) d x.turn)) (cell_of n) now
+      (λ _. kept LoadCell is_driver at_rest (refl, settled)) (λ _ _. kept LoadCell is_driver at_rest (refl, settled))
+      (λ left clock. kept LoadCell is_driver (record { due = Campaign; next = lead_next (cell_of n).saved now; publishes = true })
+      (record { settled = settled; term = omega (arith, left); above = omega arith; clock = clock }))
 
   -- a campaign
   may_claim : (turn_at w d).due ≡ Campaign → May w.setup ClaimTerm (view_at w d)
@@ -142,8 +122,8 @@ module _ (w : Whole) (s : IsSound w) (d : ℕ) (pos : 0 < d) (low : d ≤ w.setu
       let next = (turn_at w d).next in
       let may = stands Campaign due in
       kept ClaimTerm (may_claim due) (campaign_decides v.cell next n).turn
-      (by_bool (λ b. StandsAt (cond {A = Decided} b (record { reply = Claimed (v.cell.term + 1); turn = record { due = Save; next = next; publishes = true } }) (record { reply = Beaten (cell_of n); turn = at_rest })).turn.due
-      (cond {A = Decided} b (record { reply = Claimed (v.cell.term + 1); turn = record { due = Save; next = next; publishes = true } }) (record { reply = Beaten (cell_of n); turn = at_rest })).turn (cond b (claimed v) (knows (cell_of n) v))) (eqb n (cell_word v.cell))
+      (by_bool (λ b. StandsAt (cond {A = Decided} b (goes (Claimed (v.cell.term + 1)) Save next true) (ends (Beaten (cell_of n)))).turn.due
+      (cond {A = Decided} b (goes (Claimed (v.cell.term + 1)) Save next true) (ends (Beaten (cell_of n)))).turn (cond b (claimed v) (knows (cell_of n) v))) (eqb n (cell_word v.cell))
       (λ _. record { holds = refl; above = omega (arith, may.above); clock = may.clock; start = inr (refl, omega (arith, may.above)) })
       (λ _. (refl, may.settled)))
 
@@ -164,8 +144,8 @@ module _ (w : Whole) (s : IsSound w) (d : ℕ) (pos : 0 < d) (low : d ≤ w.setu
       let next = (turn_at w d).next in
       let may = stands Save due in
       kept (its_save w d) (may_save_step due) (save_decides (held v) next n).turn
-      (by_bool (λ b. StandsAt (cond {A = Decided} b (record { reply = Saved (end_of next); turn = record { due = Raise; next = next; publishes = true } }) (record { reply = Lost (cell_of n); turn = record { due = Publish; next = 0; publishes = false } })).turn.due
-      (cond {A = Decided} b (record { reply = Saved (end_of next); turn = record { due = Raise; next = next; publishes = true } }) (record { reply = Lost (cell_of n); turn = record { due = Publish; next = 0; publishes = false } })).turn (cond b (saves (end_of next) v v.latest) (knows (cell_of n) v))) (eqb n (packed (held v).hi (held v).term))
+      (by_bool (λ b. StandsAt (cond {A = Decided} b (goes (Saved (end_of next)) Raise next true) (goes (Lost (cell_of n)) Publish 0 false)).turn.due
+      (cond {A = Decided} b (goes (Saved (end_of next)) Raise next true) (goes (Lost (cell_of n)) Publish 0 false)).turn (cond b (saves (end_of next) v v.latest) (knows (cell_of n) v))) (eqb n (packed (held v).hi (held v).term))
       (λ _. saved_raise next v v.latest refl (fits.holds may.holds) may opened)
       (λ _. (refl, λ never. false_true never)))
 
@@ -211,19 +191,19 @@ module _ (w : Whole) (s : IsSound w) (d : ℕ) (pos : 0 < d) (low : d ≤ w.setu
       let v = view_at w d in
       let n = found_by w d (RaiseCursor 0) in
       let settled = (stands Rest due).1 in
-      by_bool (λ b. IsSound (cond b (Rattle.tso_core.specs.Steps.decided (made w d (RaiseCursor 0)) d (probe_decides (held v).hi now n)) (record { reply = Rattle.tso_core.specs.declared.reply.Reply.TheVariants.NotLeading; after = w })).after) v.holds
+      by_bool (λ b. IsSound (cond b (decided (made w d (RaiseCursor 0)) d (probe_decides (held v).hi now n)) (record { reply = NotLeading; after = w })).after) v.holds
       (λ holds. let marked : marks 0 v ≡ true = marks_kept 0 v (settled holds) in
-      goes_cases (held v).hi n (tick_next n (held v).hi now) (λ turn. IsSound (turned (made w d (RaiseCursor 0)) d turn))
-      (kept (RaiseCursor 0) (is_driver, inl refl) at_rest (refl, λ _. marked))
-      (λ next above clock. kept (RaiseCursor 0) (is_driver, inl refl) (record { due = Save; next = next; publishes = true }) (record { holds = holds; above = above; clock = clock; start = inl marked }))
-      (λ next below. kept (RaiseCursor 0) (is_driver, inl refl) (record { due = Raise; next = next; publishes = false }) (record { holds = holds; below = below; start = inl marked })))
+      goes_cases (λ (x : Decided). IsSound (turned (made w d (RaiseCursor 0)) d x.turn)) (held v).hi n (tick_next n (held v).hi now)
+      (λ _. kept (RaiseCursor 0) (is_driver, inl refl) at_rest (refl, λ _. marked)) (λ _ _ _ _. kept (RaiseCursor 0) (is_driver, inl refl) at_rest (refl, λ _. marked))
+      (λ next _ near clock. kept (RaiseCursor 0) (is_driver, inl refl) (record { due = Save; next = next; publishes = true }) (record { holds = holds; above = omega (arith, near); clock = clock; start = inl marked }))
+      (λ next _ far. kept (RaiseCursor 0) (is_driver, inl refl) (record { due = Raise; next = next; publishes = false }) (record { holds = holds; below = omega (arith, far); start = inl marked })))
       (λ _. s)
 
   pub may_resign : MayMake w d ClearLimit
   may_resign = may_make ClearLimit is_driver
 
   pub resign_sound : IsSound (resign_of w d).after
-  resign_sound = by_bool (λ b. IsSound (cond b (Rattle.tso_core.specs.Steps.decided (made w d ClearLimit) d (record { reply = Resigned; turn = at_rest })) (record { reply = Rattle.tso_core.specs.declared.reply.Reply.TheVariants.NotLeading; after = w })).after) (view_at w d).holds
+  resign_sound = by_bool (λ b. IsSound (cond b (decided (made w d ClearLimit) d (ends Resigned)) (record { reply = NotLeading; after = w })).after) (view_at w d).holds
       (λ _. kept ClearLimit is_driver at_rest (refl, λ holds. false_true holds))
       (λ _. s)
 

@@ -1,5 +1,5 @@
 -- Tests of dues and plans, and what they say.
-use Rattle.std.proofs.Common.{◌≡◌, ◌≢◌, ℕ, zero, suc, ◌^◌, ◌<◌, ◌≤◌, true, false, cond, eqb, refl, sym, ap, ◌∙◌, arith}
+use Rattle.std.proofs.Common.{◌≡◌, ℕ, zero, suc, ◌<◌, true, cond, eqb, refl, sym, ap, ◌∙◌, arith}
 use Rattle.std.proofs.lemmas.Bool.Decides.{nat_tests}
 use Rattle.std.specs.Prelude.{Option, None, Some}
 use Rattle.tso_model.specs.declared.entries.Limit.{Limit}
@@ -9,7 +9,6 @@ use Rattle.tso_model.proofs.Basics.{by_eq}
 use Rattle.tso_core.specs.declared.reply.Due.{Due}
 use Rattle.tso_core.specs.declared.reply.Due.TheVariants.{Rest, Campaign, Save, Raise, Publish, Arm, Draw}
 use Rattle.tso_core.specs.Due.{place_of, same_due}
-use Rattle.tso_model.specs.Plan.{end_of, past_clock, saves_for}
 use Rattle.tso_core.specs.Steps.{hand_due, client_due}
 
 due_at : ℕ → Due
@@ -34,23 +33,11 @@ at_place Draw = refl
 pub eq_test : (m n : ℕ) → eqb m n ≡ true → m ≡ n
 eq_test m n test = grind (arith, nat_tests)
 
-pub ne_test : (m n : ℕ) → eqb m n ≡ false → m ≢ n
-ne_test m n test same = grind (arith, nat_tests)
-
 pub is_due : (a b : Due) → same_due a b ≡ true → a ≡ b
 is_due a b test = sym (at_place a) ∙ ap due_at (eq_test (place_of a) (place_of b) test) ∙ at_place b
 
 pub is_same : (a b : Due) → a ≡ b → same_due a b ≡ true
 is_same a b same = let e = ap place_of same in grind (arith, nat_tests)
-
-pub in_clock : (next : ℕ) → past_clock next ≡ false → end_of next < 2 ^ 45
-in_clock next test = grind (arith, nat_tests)
-
-pub no_left : (next hi : ℕ) → saves_for next hi ≡ true → hi < end_of next
-no_left next hi test = grind (arith, nat_tests)
-
-pub some_left : (next hi : ℕ) → saves_for next hi ≡ false → next ≤ hi
-some_left next hi test = grind (arith, nat_tests)
 
 -- what the due of a client says of its view
 rest_from : (o : Option Limit) (armed : ℕ) → hand_due o armed ≡ Rest → o ≡ None

@@ -13,7 +13,7 @@ use Rattle.tso_core.specs.declared.reply.Reply.{Reply}
 use Rattle.tso_core.specs.declared.reply.Reply.TheVariants.{Got, Again}
 use Rattle.tso_core.specs.declared.reply.Due.TheVariants.{Draw}
 use Rattle.tso_core.specs.Whole.{Whole, place_of_client, view_at, found_by}
-use Rattle.tso_core.specs.Rows.{due_at}
+use Rattle.tso_core.specs.Steps.{due_at}
 use Rattle.tso_core.specs.Sound.{IsSound, HasClient}
 use Rattle.tso_model.specs.OneHistory.{IsAbove}
 use Rattle.tso_core.specs.Laws.{AreLedger, AreBounded, IsGranted, DrawsGrant}

@@ -1,46 +1,31 @@
 -- A single step answers with the word that it touched, as it stands then.
-use Rattle.std.proofs.Common.{◌≡◌, ℕ, ◌+◌, ◌*◌, ◌/◌, ◌%◌, ◌<◌, max, Bool, true, false, cond, List, refl, sym, ap, subst, ◌∙◌, arith}
-use Rattle.std.specs.Prelude.{Option, None, Some, ◌==◌, nat_eq, nat_lt, slice_index, slice_set}
+use Rattle.std.proofs.Common.{◌≡◌, ℕ, ◌+◌, ◌*◌, ◌/◌, ◌%◌, ◌<◌, max, Bool, true, false, cond, List, sym, ap, subst, ◌∙◌, arith}
+use Rattle.std.specs.Prelude.{◌==◌, slice_index, slice_set}
 use Rattle.std.proofs.lemmas.List.{get_or-set_same, set-get_or}
 use Rattle.pd_types.specs.declared.oracle.CellWord.{CellWord}
 use Rattle.tso_model.specs.declared.step.WordStep.TheVariants.{RaiseCursor, StoreLimit, ClearLimit}
 use Rattle.tso_model.specs.Words.{packed, cell_of, cell_word, limit_at, cursor_at, passes}
-use Rattle.tso_model.specs.Plan.{end_of, past_clock, lead_next, tick_next, saves_for}
+use Rattle.tso_model.specs.Plan.{end_of, tick_next}
 use Rattle.tso_model.specs.Steps.{word_of, word_after, held, hand}
 use Rattle.tso_model.proofs.Basics.{by_bool}
 use Rattle.tso_core.specs.declared.plan.Decided.{Decided}
 use Rattle.tso_core.specs.declared.turn.Turn.{Turn}
 use Rattle.tso_core.specs.declared.reply.Due.{Due}
-use Rattle.tso_core.specs.declared.reply.Due.TheVariants.{Rest, Campaign, Save, Raise, Publish, Arm}
+use Rattle.tso_core.specs.declared.reply.Due.TheVariants.{Campaign, Save, Raise, Publish}
 use Rattle.tso_core.specs.declared.reply.Kind.{Kind}
-use Rattle.tso_core.specs.declared.reply.Kind.TheVariants.{Read, Campaign as ToCampaign, Save as ToSave, Probe, Raise as ToRaise, Publish as ToPublish, Resign}
+use Rattle.tso_core.specs.declared.reply.Kind.TheVariants.{Read, Campaign as ToCampaign, Save as ToSave, Probe, Raise as ToRaise, Publish as ToPublish, Resign, Look, Arm as ToArm}
+use Rattle.pd_types.specs.declared.oracle.Actor.TheVariants.{Driver, Client}
 use Rattle.tso_core.specs.declared.reply.Reply.{Reply}
-use Rattle.tso_core.specs.declared.reply.Reply.TheVariants.{Beaten, Lost, TermsSpent, ClockRange, NotLeading, Resigned, Again, NotLeader, Stale, CellRead, Claimed, Saved, Probed, Looked, Armed}
-use Rattle.tso_core.specs.Due.{same_due, due_for, at_rest}
+use Rattle.tso_core.specs.declared.reply.Reply.TheVariants.{Beaten, Lost, NotLeading, Resigned, Again, Claimed, Saved, Armed}
+use Rattle.tso_core.specs.Due.{due_for, at_rest}
 use Rattle.tso_core.specs.Whole.{Whole, place_of_client, view_at, turn_at, found_by, made}
-use Rattle.tso_core.specs.Steps.{Stepped, out_of_turn, decided, goes_to, probe_decides, read_of, campaign_of, save_of, raise_of, publish_of, probe_of, look_of, arm_of, driver_step}
-use Rattle.tso_core.specs.Rows.{due_at}
+use Rattle.tso_core.specs.Steps.{Stepped, decided, ends, probe_decides, move_of, read_of, campaign_of, save_of, raise_of, publish_of, probe_of, look_of, arm_of}
 use Rattle.tso_core.specs.Sound.{IsSound, HasDriver, StandsAt}
 use Rattle.tso_core.specs.WholeCalls.{NamesWord, NamesLimit, StepsName, cell_at, cursor_of, limit_of}
 use Rattle.tso_core.proofs.Driven.{driver_held}
-use Rattle.tso_core.proofs.Dues.{is_due}
+use Rattle.tso_core.proofs.Cases.{read_cases, goes_cases, look_cases}
+use Rattle.tso_core.proofs.Stepping.{OnMove, step_by}
 use Rattle.tso_core.proofs.Lasts.{its}
-
-names_decided : (u : Whole) (d : ℕ) (b : Bool) (x y : Decided) → NamesWord u d x.reply → NamesWord u d y.reply → NamesWord u d (cond b x y).reply
-names_decided u d true x y hit miss = hit
-names_decided u d false x y hit miss = miss
-
-names_cond : (d : ℕ) (b : Bool) (x y : Stepped) → (b ≡ true → NamesWord x.after d x.reply) → (b ≡ false → NamesWord y.after d y.reply) → NamesWord (cond b x y).after d (cond b x y).reply
-names_cond d true x y hit miss = hit refl
-names_cond d false x y hit miss = miss refl
-
-limit_cond : (d : ℕ) (b : Bool) (x y : Stepped) → (b ≡ true → NamesLimit x.after d x.reply) → NamesLimit y.after d y.reply → NamesLimit (cond b x y).after d (cond b x y).reply
-limit_cond d true x y hit miss = hit refl
-limit_cond d false x y hit miss = miss
-
-limit_reply : (u : Whole) (d : ℕ) (b : Bool) (x y : Reply) → NamesLimit u d x → NamesLimit u d y → NamesLimit u d (cond b x y)
-limit_reply u d true x y hit miss = hit
-limit_reply u d false x y hit miss = miss
 
 -- a campaign by its test
 claim_names : (u : Whole) (d : ℕ) (b : Bool) (known : CellWord) (n : ℕ) (won lost : Turn) → slice_index u.words 0 ≡ cond b (packed known.saved (known.term + 1)) n → known.term < 262143
@@ -70,11 +55,7 @@ module _ (w : Whole) (s : IsSound w) (d : ℕ) (has : HasDriver w.setup d) where
   read_names : (now : ℕ) → NamesWord (read_of w d now).after d (read_of w d now).reply
   read_names now =
       let u = (read_of w d now).after in
-      let cell = cell_at w in
-      names_decided u d (nat_eq cell.term 262143) (record { reply = TermsSpent; turn = at_rest })
-      (cond (past_clock (lead_next cell.saved now)) (record { reply = ClockRange; turn = at_rest }) (record { reply = CellRead cell; turn = record { due = Campaign; next = lead_next cell.saved now; publishes = true } })) tt
-      (names_decided u d (past_clock (lead_next cell.saved now)) (record { reply = ClockRange; turn = at_rest }) (record { reply = CellRead cell; turn = record { due = Campaign; next = lead_next cell.saved now; publishes = true } }) tt
-      (ap cell_of (sym (cell_set (slice_index w.words 0)))))
+      read_cases (λ (x : Decided). NamesWord u d x.reply) (cell_at w) now (λ _. tt) (λ _ _. tt) (λ _ _. ap cell_of (sym (cell_set (slice_index w.words 0))))
 
   campaign_names : (turn_at w d).due ≡ Campaign → NamesWord (campaign_of w d).after d (campaign_of w d).reply
   campaign_names due =
@@ -100,29 +81,27 @@ module _ (w : Whole) (s : IsSound w) (d : ℕ) (has : HasDriver w.setup d) where
       (λ _. omega (arith, limit_set (packed (held (view_at w d)).hi (held (view_at w d)).term), (driver_held w s d has.pos has.low).term))
       (λ _. omega (arith, limit_set 0))
 
-  goes_names : (u : Whole) (hi cursor : ℕ) (o : Option ℕ) → cursor ≡ cursor_of u d → NamesWord u d (goes_to hi cursor o).reply
-  goes_names u hi cursor None same = tt
-  goes_names u hi cursor (Some next) same = names_decided u d (saves_for next hi)
-      (cond (past_clock next) (record { reply = ClockRange; turn = at_rest }) (record { reply = Probed cursor; turn = record { due = Save; next = next; publishes = true } }))
-      (record { reply = Probed cursor; turn = record { due = Raise; next = next; publishes = false } })
-      (names_decided u d (past_clock next) (record { reply = ClockRange; turn = at_rest }) (record { reply = Probed cursor; turn = record { due = Save; next = next; publishes = true } }) tt same) same
+  held_names : (b : Bool) (r : Stepped) → NamesWord r.after d r.reply → (let not : Stepped = record { reply = NotLeading; after = w } in NamesWord (cond b r not).after d (cond b r not).reply)
+  held_names true r names = names
+  held_names false r names = tt
 
   probe_names : (now : ℕ) → NamesWord (probe_of w d now).after d (probe_of w d now).reply
   probe_names now =
+      let hi = (held (view_at w d)).hi in
       let n = found_by w d (RaiseCursor 0) in
-      let probed = decided (made w d (RaiseCursor 0)) d (probe_decides (held (view_at w d)).hi now n) in
+      let probed : Stepped = decided (made w d (RaiseCursor 0)) d (probe_decides hi now n) in
       let zero_less : max n 0 ≡ n = omega arith in
-      names_cond d (view_at w d).holds probed (record { reply = NotLeading; after = w })
-      (λ _. goes_names probed.after (held (view_at w d)).hi n (tick_next n (held (view_at w d)).hi now) (sym (cursor_set (max n 0) ∙ zero_less))) (λ _. tt)
+      let same = sym (cursor_set (max n 0) ∙ zero_less) in
+      held_names (view_at w d).holds probed (goes_cases (λ (x : Decided). NamesWord probed.after d x.reply) hi n (tick_next n hi now) (λ _. tt) (λ _ _ _ _. tt) (λ _ _ _ _. same) (λ _ _ _. same))
 
-  driver_names : (kind : Kind) → (turn_at w d).due ≡ due_for kind → NamesWord (driver_step w d (turn_at w d).due kind).after d (driver_step w d (turn_at w d).due kind).reply
+  driver_names : (kind : Kind) → (turn_at w d).due ≡ due_for kind → OnMove (λ (r : Stepped). NamesWord r.after d r.reply) w (move_of (Driver d) kind)
   driver_names (Read now) due = read_names now
   driver_names ToCampaign due = campaign_names due
   driver_names ToSave due = save_names
   driver_names (Probe now) due = probe_names now
   driver_names ToRaise due = raise_names
   driver_names ToPublish due = publish_names
-  driver_names Resign due = names_cond d (view_at w d).holds (decided (made w d ClearLimit) d (record { reply = Resigned; turn = at_rest })) (record { reply = NotLeading; after = w }) (λ _. tt) (λ _. tt)
+  driver_names Resign due = held_names (view_at w d).holds (decided (made w d ClearLimit) d (ends Resigned)) tt
   driver_names kind due = tt
 
 module _ (w : Whole) (c : ℕ) where
@@ -130,10 +109,8 @@ module _ (w : Whole) (c : ℕ) where
   look_names d =
       let u = (look_of w c d).after in
       let word = limit_of w d in
-      let seen = (view_at w (place_of_client w c)).seen in
       let same : word ≡ limit_of u d = ap (λ (l : List ℕ). slice_index l (limit_at d)) (sym (set-get_or w.words (limit_at d) 0)) in
-      limit_reply u d (nat_eq word 0) NotLeader (cond (nat_lt (word % 262144) seen.term) (Stale seen.term) (Looked (word % 262144) (word / 262144))) tt
-      (limit_reply u d (nat_lt (word % 262144) seen.term) (Stale seen.term) (Looked (word % 262144) (word / 262144)) tt (ap (λ (n : ℕ). n % 262144) same, ap (λ (n : ℕ). n / 262144) same))
+      look_cases (λ (x : Reply) _. NamesLimit u d x) word (view_at w (place_of_client w c)) (λ _. tt) (λ _ _. tt) (λ _ _. (ap (λ (n : ℕ). n % 262144) same, ap (λ (n : ℕ). n / 262144) same))
 
   arm_names : (n : ℕ) → NamesLimit (arm_of w c n).after (hand (view_at w (place_of_client w c))).driver (arm_of w c n).reply
   arm_names n =
@@ -141,11 +118,11 @@ module _ (w : Whole) (c : ℕ) where
       let d = (hand (view_at w (place_of_client w c))).driver in
       let at = cursor_of w d in
       let hi = (hand (view_at w (place_of_client w c))).hi in
-      limit_reply u d (passes at hi n) (Again at hi n) (Armed at) tt (ap (λ (l : List ℕ). slice_index l (cursor_at d)) (sym (set-get_or w.words (cursor_at d) 0)))
+      by_bool (λ b. NamesLimit u d (cond b (Again at hi n) (Armed at))) (passes at hi n) (λ _. tt) (λ _. ap (λ (l : List ℕ). slice_index l (cursor_at d)) (sym (set-get_or w.words (cursor_at d) 0)))
 
 pub steps_name : (w : Whole) → IsSound w → StepsName w
 steps_name w s = record {
-  driver = λ d kind has. names_cond d (same_due (due_for kind) (turn_at w d).due) (driver_step w d (turn_at w d).due kind) (out_of_turn w (turn_at w d).due) (λ due. driver_names w s d has kind (sym (is_due (due_for kind) (turn_at w d).due due))) (λ _. tt);
-  look = λ c d has. limit_cond d (same_due Rest (due_at w c)) (look_of w c d) (out_of_turn w (due_at w c)) (λ _. look_names w c d) tt;
-  arm = λ c n has. limit_cond (hand (view_at w (place_of_client w c))).driver (same_due Arm (due_at w c)) (arm_of w c n) (out_of_turn w (due_at w c)) (λ _. arm_names w c n) tt;
+  driver = λ d kind has. step_by (λ (r : Stepped). NamesWord r.after d r.reply) w (Driver d) kind tt (driver_names w s d has kind);
+  look = λ c d has. step_by (λ (r : Stepped). NamesLimit r.after d r.reply) w (Client c) (Look d) tt (λ _. look_names w c d);
+  arm = λ c n has. step_by (λ (r : Stepped). NamesLimit r.after (hand (view_at w (place_of_client w c))).driver r.reply) w (Client c) (ToArm n) tt (λ _. arm_names w c n);
 }

@@ -1,5 +1,5 @@
 -- Notes are heard in the order in which they were told, each once.
-use Rattle.std.proofs.Common.{◌≡◌, ◌≢◌, ℕ, ◌<◌, ◌≤◌, Bool, cond, List, [], ◌∷◌, ◌++◌, map, length, get_or, set, refl, sym, ap, subst, ◌∙◌, arith, eq-eqb}
+use Rattle.std.proofs.Common.{◌≡◌, ◌≢◌, ℕ, ◌<◌, ◌≤◌, Bool, true, cond, List, [], ◌∷◌, ◌++◌, map, length, get_or, set, refl, sym, ap, subst, ◌∙◌, arith, eq-eqb}
 use Rattle.std.proofs.lemmas.List.{get_or-set_same, get_or-set_other, map-append}
 use Rattle.std.proofs.Math.ListN.{length-set}
 use Rattle.pd_types.specs.declared.oracle.Seen.{Seen}
@@ -9,14 +9,13 @@ use Rattle.tso_model.proofs.Sums.{term_le}
 use Rattle.tso_core.specs.declared.reply.Due.TheVariants.{Rest}
 use Rattle.tso_core.specs.declared.reply.Reply.TheVariants.{Told, Heard, Nothing}
 use Rattle.tso_core.specs.Whole.{Whole, place_of_client, view_at, post_at}
-use Rattle.tso_core.specs.Steps.{Stepped, out_of_turn}
-use Rattle.tso_core.specs.Rows.{due_at}
-use Rattle.tso_core.specs.Notes.{tell_of, hear_of, note_left, note_met}
+use Rattle.tso_core.specs.Steps.{Stepped, out_of_turn, due_at}
+use Rattle.tso_core.specs.Due.{same_due}
+use Rattle.tso_core.specs.Notes.{tell_of, hear_of, heard_from, note_left, note_met}
 use Rattle.tso_core.specs.Sound.{IsSound, HasClient, waiting}
 use Rattle.tso_core.specs.WholeCalls.{waits_for, LeavesRun, TellTells, Hears, HearTells}
 use Rattle.tso_core.proofs.Dues.{is_same}
 use Rattle.tso_core.proofs.Places.{at_get}
-use Rattle.tso_core.proofs.Rests.{hear_rest}
 use Rattle.tso_core.proofs.Told.{old_view, new_view, else_view, not_note}
 
 -- a list read in two ways that agree on its elements
@@ -30,6 +29,9 @@ map_same f g (x ∷ xs) same =
 -- what waits for one client waits
 waits_in : (id c : ℕ) (posts : List (List ℕ)) → c < length posts → times id (get_or posts c []) ≤ waiting id posts
 waits_in id c posts within = term_le (λ (post : List ℕ). times id post) posts c (get_or posts c []) (at_get posts c [] within)
+
+hear_rest : (w : Whole) (c : ℕ) (post : List ℕ) → same_due (due_at w c) Rest ≡ true → post_at w c ≡ post → hear_of w c ≡ heard_from w c post
+hear_rest w c post due waits = ap (λ (b : Bool). cond b (heard_from w c (post_at w c)) (out_of_turn w (due_at w c))) due ∙ ap (λ (p : List ℕ). heard_from w c p) waits
 
 -- the first of a list, and the rest
 abbrev head_or : Seen → List Seen → Seen

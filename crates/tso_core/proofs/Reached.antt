@@ -1,6 +1,6 @@
 -- What the steps of a driver make of its words, its view and its turn and of the windows, with all else as it was.
-use Rattle.std.proofs.Common.{◌≡◌, ◌≢◌, ℕ, ◌+◌, ◌*◌, ◌<◌, ◌≤◌, max, Bool, true, false, cond, List, ◌∷◌, map, length, set, refl, sym, ap, subst, ◌∙◌, arith}
-use Rattle.std.specs.Prelude.{slice_index, slice_set}
+use Rattle.std.proofs.Common.{◌≡◌, ◌≢◌, ℕ, ◌+◌, ◌*◌, ◌<◌, ◌≤◌, max, Bool, true, false, cond, List, [], ◌∷◌, ◌++◌, map, length, set, refl, sym, ap, subst, ◌∙◌, arith}
+use Rattle.std.specs.Prelude.{unwrap_or, slice_index, slice_set}
 use Rattle.std.proofs.lemmas.List.{get_or-set_same, get_or-set_other, set-set, set-get_or}
 use Rattle.std.proofs.Math.ListN.{length-set}
 use Rattle.pd_types.specs.declared.oracle.Actor.TheVariants.{Driver}
@@ -18,13 +18,15 @@ use Rattle.tso_core.specs.declared.turn.Turn.{Turn}
 use Rattle.tso_core.specs.declared.plan.Decided.{Decided}
 use Rattle.tso_core.specs.declared.reply.Kind.{Kind}
 use Rattle.tso_core.specs.declared.reply.Reply.{Reply}
-use Rattle.tso_core.specs.declared.reply.Reply.TheVariants.{Published, Resigned}
+use Rattle.tso_core.specs.declared.reply.Kind.TheVariants.{Raise as ToRaise, Publish as ToPublish}
+use Rattle.tso_core.specs.declared.reply.Reply.TheVariants.{Moved, Published, Resigned}
 use Rattle.tso_core.specs.Due.{same_due, due_for, at_rest}
 use Rattle.tso_core.specs.Whole.{Whole, view_at, turn_at, found_by, made, turned}
-use Rattle.tso_core.specs.Steps.{Stepped, out_of_turn, decided, read_decides, campaign_decides, save_decides, raise_decides, probe_decides, its_save, its_raise, its_publish, its_end, read_of, campaign_of, save_of, raise_of, publish_of, driver_step, step_of}
+use Rattle.tso_core.specs.Steps.{Stepped, out_of_turn, decided, read_decides, campaign_decides, save_decides, raise_decides, probe_decides, its_save, its_raise, its_publish, its_end, read_of, campaign_of, save_of, raise_of, publish_of, ends, due_step, step_of}
+use Rattle.tso_core.specs.Rows.{told, gone, goes_on}
 use Rattle.tso_core.specs.Sound.{IsSound, HasDriver}
 use Rattle.tso_core.specs.Laws.{Step, played}
-use Rattle.tso_core.specs.WholeCalls.{driver_state, LeavesOthers}
+use Rattle.tso_core.specs.WholeCalls.{DriverState, driver_state, Answers, LeavesOthers}
 
 -- what a driver's steps touch
 pub record Part : Type 0 where
@@ -218,26 +220,22 @@ module _ (w : Whole) (d : ℕ) (pos : 0 < d) (low : d ≤ w.setup.drivers) (p : 
         (on_cursor (RaiseCursor 0) (raised 0 p.cursor p.view) to.turn p.cursor (ap cursor_at own) refl (omega arith) refl refl)
 
     -- a publish of the held window's end
-    pub publish_goes : p.turn.publishes ≡ true → Reached w d (record p { view = publishes (packed (held p.view).hi (held p.view).term) p.view; turn = at_rest; limit = packed (held p.view).hi (held p.view).term }) (publish_of u d).after
-    publish_goes last = (went w d (record p { view = publishes (packed (held p.view).hi (held p.view).term) p.view; turn = at_rest; limit = packed (held p.view).hi (held p.view).term }) u (its_publish u d) StoreLimit
-        (ap (λ (y : Turn). cond y.publishes StoreLimit ClearLimit) r.turn ∙ ap (λ (b : Bool). cond b StoreLimit ClearLimit) last) (record { reply = Published (its_end u d); turn = at_rest }) (record { reply = Published (its_end u d); turn = at_rest }) refl refl
-        (on_limit StoreLimit (publishes (packed (held p.view).hi (held p.view).term) p.view) at_rest (packed (held p.view).hi (held p.view).term) (ap limit_at own) refl refl refl refl)).reached
+    pub publish_goes : p.turn.publishes ≡ true → Went w d (record p { view = publishes (packed (held p.view).hi (held p.view).term) p.view; turn = at_rest; limit = packed (held p.view).hi (held p.view).term }) (Published (its_end u d)) (publish_of u d)
+    publish_goes last = went w d (record p { view = publishes (packed (held p.view).hi (held p.view).term) p.view; turn = at_rest; limit = packed (held p.view).hi (held p.view).term }) u (its_publish u d) StoreLimit
+        (ap (λ (y : Turn). cond y.publishes StoreLimit ClearLimit) r.turn ∙ ap (λ (b : Bool). cond b StoreLimit ClearLimit) last) (ends (Published (its_end u d))) (ends (Published (its_end u d))) refl refl
+        (on_limit StoreLimit (publishes (packed (held p.view).hi (held p.view).term) p.view) at_rest (packed (held p.view).hi (held p.view).term) (ap limit_at own) refl refl refl refl)
 
     -- a store of 0 as the limit
     cleared : Reached w d (record p { view = record (publishes 0 p.view) { holds = false; marked = false }; turn = at_rest; limit = 0 }) (turned (made u d ClearLimit) d at_rest)
     cleared = on_limit ClearLimit (record (publishes 0 p.view) { holds = false; marked = false }) at_rest 0 (ap limit_at own) refl refl refl refl
 
-    pub clear_goes : p.turn.publishes ≡ false → Reached w d (record p { view = record (publishes 0 p.view) { holds = false; marked = false }; turn = at_rest; limit = 0 }) (publish_of u d).after
-    clear_goes none = (went w d (record p { view = record (publishes 0 p.view) { holds = false; marked = false }; turn = at_rest; limit = 0 }) u (its_publish u d) ClearLimit
-        (ap (λ (y : Turn). cond y.publishes StoreLimit ClearLimit) r.turn ∙ ap (λ (b : Bool). cond b StoreLimit ClearLimit) none) (record { reply = Published (its_end u d); turn = at_rest }) (record { reply = Published (its_end u d); turn = at_rest }) refl refl cleared).reached
+    pub clear_goes : p.turn.publishes ≡ false → Went w d (record p { view = record (publishes 0 p.view) { holds = false; marked = false }; turn = at_rest; limit = 0 }) (Published (its_end u d)) (publish_of u d)
+    clear_goes none = went w d (record p { view = record (publishes 0 p.view) { holds = false; marked = false }; turn = at_rest; limit = 0 }) u (its_publish u d) ClearLimit
+        (ap (λ (y : Turn). cond y.publishes StoreLimit ClearLimit) r.turn ∙ ap (λ (b : Bool). cond b StoreLimit ClearLimit) none) (ends (Published (its_end u d))) (ends (Published (its_end u d))) refl refl cleared
 
     -- a resignation
-    pub resign_goes : Went w d (record p { view = record (publishes 0 p.view) { holds = false; marked = false }; turn = at_rest; limit = 0 }) Resigned (decided (made u d ClearLimit) d (record { reply = Resigned; turn = at_rest }))
+    pub resign_goes : Went w d (record p { view = record (publishes 0 p.view) { holds = false; marked = false }; turn = at_rest; limit = 0 }) Resigned (decided (made u d ClearLimit) d (ends Resigned))
     resign_goes = record { reply_is = refl; reached = cleared }
-
-  -- the step that is due is made
-  pub in_turn : (kind : Kind) → same_due (due_for kind) p.turn.due ≡ true → (step_of u (Driver d) kind).after ≡ (driver_step u d (turn_at u d).due kind).after
-  in_turn kind due = ap (λ (b : Bool). (cond b (driver_step u d (turn_at u d).due kind) (out_of_turn u (turn_at u d).due)).after) (ap (λ (y : Turn). same_due (due_for kind) y.due) r.turn ∙ due)
 
   -- what the state says of the driver
   pub state_is : driver_state u d ≡ record { cell = cell_of p.cell; limit = p.limit; cursor = p.cursor; windows = p.windows; holds = p.view.holds; window = held p.view }
@@ -253,11 +251,57 @@ module _ (w : Whole) (d : ℕ) (pos : 0 < d) (low : d ≤ w.setup.drivers) (p : 
     batches = r.batches;
   }
 
--- the state after a row of steps
-pub record Row (w : Whole) (d : ℕ) (u : Whole) (kinds : List Kind) (p : Part) (x : Whole) : Type 0 where
-  pub reached : Reached w d p x
-  pub row : x ≡ played u (map (Step (Driver d)) kinds)
+-- what a row answers after a step, by the part before it
+abbrev told_at : Kind → Part → Reply → Reply → Reply
+told_at ToRaise p before reply = Moved p.turn.next (held p.view).hi
+told_at ToPublish p before reply = before
+told_at kind p before reply = reply
 
--- the row with one more step before it
-pub before : (w : Whole) (d : ℕ) (u : Whole) (kind : Kind) (kinds : List Kind) (p : Part) (after x : Whole) → (step_of u (Driver d) kind).after ≡ after → Row w d after kinds p x → Row w d u (kind ∷ kinds) p x
-before w d u kind kinds p after x is rest = record { reached = rest.reached; row = rest.row ∙ ap (λ (y : Whole). played y (map (Step (Driver d)) kinds)) (sym is) }
+told_is : (w : Whole) (d : ℕ) (p : Part) (u : Whole) → Reached w d p u → (kind : Kind) (before reply : Reply) → unwrap_or (told kind (Driver d) u before) reply ≡ told_at kind p before reply
+told_is w d p u r ToRaise before reply = λ i. Moved (r.turn i).next (held (r.view i)).hi
+told_is w d p u r ToPublish before reply = refl
+told_is w d p u r kind before reply = refl
+
+-- A row of the driver that made these steps answers this, and leaves this part
+pub record Ran (w : Whole) (d : ℕ) (kinds : List Kind) (p : Part) (reply : Reply) (r : Stepped) : Type 0 where
+  pub answer : r.reply ≡ reply
+  pub reached : Reached w d p r.after
+  pub row : r.after ≡ played w (map (Step (Driver d)) kinds)
+
+played_more : (w : Whole) (d : ℕ) (kinds : List Kind) (kind : Kind) → played w (map (Step (Driver d)) (kinds ++ kind ∷ [])) ≡ (step_of (played w (map (Step (Driver d)) kinds)) (Driver d) kind).after
+played_more w d [] kind = refl
+played_more w d (x ∷ kinds) kind = played_more (step_of w (Driver d) x).after d kinds kind
+
+module _ (w : Whole) (d : ℕ) (kinds : List Kind) (p : Part) (before : Reply) (r : Stepped) (ran : Ran w d kinds p before r) (kind : Kind) where
+  same : same_due (due_for kind) (turn_at r.after d).due ≡ same_due (due_for kind) p.turn.due
+  same = ap (λ (y : Turn). same_due (due_for kind) y.due) ran.reached.turn
+
+  -- the row goes on with a step that is next
+  pub next_in : same_due (due_for kind) p.turn.due ≡ true → (q : Part) (reply : Reply) → Went w d q reply (due_step r.after (Driver d) kind) → Ran w d (kinds ++ kind ∷ []) q (told_at kind p before reply) (goes_on (Driver d) r kind)
+  next_in due q reply went =
+      let s : Stepped = due_step r.after (Driver d) kind in
+      let goes : goes_on (Driver d) r kind ≡ gone (Driver d) kind r s = ap (λ (b : Bool). cond b (gone (Driver d) kind r s) r) (same ∙ due) in
+      let makes : (step_of r.after (Driver d) kind).after ≡ s.after = ap (λ (b : Bool). (cond b s (out_of_turn r.after (turn_at r.after d).due)).after) (same ∙ due) in
+      subst (λ (x : Stepped). Ran w d (kinds ++ kind ∷ []) q (told_at kind p before reply) x) (sym goes) record {
+        answer = told_is w d p r.after ran.reached kind r.reply s.reply ∙ (λ i. told_at kind p (ran.answer i) (went.reply_is i));
+        reached = went.reached;
+        row = sym makes ∙ ap (λ (u : Whole). (step_of u (Driver d) kind).after) ran.row ∙ sym (played_more w d kinds kind);
+      }
+
+  -- and passes over one that isn't
+  pub passed_in : same_due (due_for kind) p.turn.due ≡ false → Ran w d kinds p before (goes_on (Driver d) r kind)
+  passed_in due = subst (λ (x : Stepped). Ran w d kinds p before x) (sym (ap (λ (b : Bool). cond b (gone (Driver d) kind r (due_step r.after (Driver d) kind)) r) (same ∙ due))) ran
+
+-- a first step
+pub first_in : (w : Whole) (d : ℕ) (kind : Kind) → same_due (due_for kind) (turn_at w d).due ≡ true → (q : Part) (reply : Reply) → Went w d q reply (due_step w (Driver d) kind) → Ran w d (kind ∷ []) q reply (due_step w (Driver d) kind)
+first_in w d kind due q reply went = record { answer = went.reply_is; reached = went.reached; row = sym (ap (λ (b : Bool). (cond b (due_step w (Driver d) kind) (out_of_turn w (turn_at w d).due)).after) due) }
+
+-- a row of steps as an answer
+pub answers : (w : Whole) (d : ℕ) → HasDriver w.setup d → (kinds : List Kind) (p : Part) (reply : Reply) (state : DriverState) (r : Stepped) → turn_at w d ≡ at_rest → Ran w d kinds p reply r → p.turn ≡ at_rest
+    → (let x : DriverState = record { cell = cell_of p.cell; limit = p.limit; cursor = p.cursor; windows = p.windows; holds = p.view.holds; window = held p.view } in x) ≡ state → Answers w d kinds reply state r
+answers w d has kinds p reply state r rest ran turn state_of = record {
+  row = ran.row;
+  reply_is = ran.answer;
+  state_is = state_is w d has.pos has.low p r.after ran.reached ∙ state_of;
+  others = others w d has.pos has.low p r.after ran.reached (turn ∙ sym rest);
+}

@@ -1,6 +1,6 @@
 -- What a whole draw of a client at rest answers and leaves.
-use Rattle.std.proofs.Common.{◌≡◌, ◌≢◌, ℕ, ◌+◌, ◌*◌, ◌/◌, ◌%◌, ◌^◌, ◌<◌, ◌≤◌, Bool, true, false, cond, List, [], ◌∷◌, length, refl, sym, ap, subst, ◌∙◌, arith, eq-eqb, ne_eqb, lt-ltb, le-ltb}
-use Rattle.std.specs.Prelude.{Option, None, Some, nat_eq, nat_lt, slice_index, slice_set}
+use Rattle.std.proofs.Common.{◌≡◌, ◌≢◌, ℕ, ◌+◌, ◌*◌, ◌/◌, ◌%◌, ◌^◌, ◌<◌, ◌≤◌, Bool, true, false, cond, List, [], ◌∷◌, length, refl, sym, ap, subst, ◌∙◌, arith, ne_eqb}
+use Rattle.std.specs.Prelude.{Option, None, Some, nat_eq, slice_index, slice_set}
 use Rattle.std.proofs.Math.Nat.{mod-eq_of_lt}
 use Rattle.std.proofs.lemmas.List.{get_or-set_same, get_or-set_other, set-get_or}
 use Rattle.std.proofs.Math.ListN.{length-set}
@@ -15,7 +15,7 @@ use Rattle.tso_model.specs.declared.step.WordStep.TheVariants.{LoadLimit, ArmCou
 use Rattle.tso_model.specs.Words.{limit_at, cursor_at, passes}
 use Rattle.tso_model.specs.Moves.{spent_view}
 use Rattle.tso_model.specs.Ledger.{windows_after, batches_after, place}
-use Rattle.tso_model.specs.Steps.{hand, word_of, word_after, view_after, looked, refused, granted, adds}
+use Rattle.tso_model.specs.Steps.{hand, word_of, word_after, view_after, fresh, looked, refused, granted, adds}
 use Rattle.tso_model.proofs.Basics.{fits}
 use Rattle.tso_core.specs.declared.reply.Due.TheVariants.{Rest, Arm, Draw}
 use Rattle.tso_core.specs.declared.reply.Kind.{Kind}
@@ -24,17 +24,18 @@ use Rattle.tso_core.specs.declared.reply.Reply.{Reply}
 use Rattle.tso_core.specs.declared.reply.Reply.TheVariants.{Got, Again, NotLeader, Stale, Looked, Armed}
 use Rattle.tso_core.specs.Due.{same_due, due_for}
 use Rattle.tso_core.specs.Whole.{Whole, place_of_client, view_at, made}
-use Rattle.tso_core.specs.Steps.{Stepped, out_of_turn, client_due, looked_reply, arm_reply, draw_reply, look_of, arm_of, draw_of, client_step, step_of}
-use Rattle.tso_core.specs.Rows.{due_at, take_of, take_armed}
+use Rattle.tso_core.specs.Steps.{Stepped, out_of_turn, client_due, looked_reply, arm_reply, draw_reply, look_of, arm_of, draw_of, due_at, due_step, step_of}
+use Rattle.tso_core.specs.Rows.{gone, goes_on, take_of}
 use Rattle.tso_core.specs.Sound.{IsSound, HasDriver, HasClient}
 use Rattle.tso_core.specs.Asked.{IsCount}
 use Rattle.tso_core.specs.Laws.{Step, played}
 use Rattle.tso_core.specs.WholeCalls.{draw_state, Draws, LeavesRest, limit_of, cursor_of, next_batch, grantee, TakeTells}
 use Rattle.tso_core.proofs.Bounds.{limit_fits}
+use Rattle.tso_core.proofs.Cases.{look_cases}
 use Rattle.tso_core.proofs.Drawn.{resting, inside}
 use Rattle.tso_core.proofs.Dues.{is_same}
 use Rattle.tso_core.proofs.Reached.{at_is}
-use Rattle.tso_core.proofs.Rests.{take_rest}
+use Rattle.tso_core.proofs.Stepping.{call_rest}
 
 -- u has this view of the client c, this cursor of the driver d and these batches, and all else as w
 record Has (w : Whole) (c d : ℕ) (v : View) (cursor : ℕ) (batches : List Batch) (u : Whole) : Type 0 where
@@ -87,9 +88,15 @@ module _ (w : Whole) (c d : ℕ) (pos : 0 < d) (low : d ≤ w.setup.drivers) (v 
     found_here : slice_index u.words (cursor_at (hand (view_at u (place_of_client w c))).driver) ≡ cursor
     found_here = ap (λ (y : View). slice_index u.words (cursor_at (hand y).driver)) h.view ∙ ap (λ (n : ℕ). slice_index u.words (cursor_at n)) mine ∙ h.cursor_is
 
--- the step that is due is made
-in_turn : (u : Whole) (c : ℕ) (v : View) (kind : Kind) → view_at u (place_of_client u c) ≡ v → same_due (due_for kind) (client_due v) ≡ true → (step_of u (Client c) kind).after ≡ (client_step u c (due_at u c) kind).after
-in_turn u c v kind view due = ap (λ (b : Bool). (cond b (client_step u c (due_at u c) kind) (out_of_turn u (due_at u c))).after) (ap (λ (y : View). same_due (due_for kind) (client_due y)) view ∙ due)
+-- the step that is due is made, alone and in a row, and one that isn't is passed over
+in_turn : (u : Whole) (c : ℕ) (v : View) (kind : Kind) → view_at u (place_of_client u c) ≡ v → same_due (due_for kind) (client_due v) ≡ true → (step_of u (Client c) kind).after ≡ (due_step u (Client c) kind).after
+in_turn u c v kind view due = ap (λ (b : Bool). (cond b (due_step u (Client c) kind) (out_of_turn u (due_at u c))).after) (ap (λ (y : View). same_due (due_for kind) (client_due y)) view ∙ due)
+
+goes_next : (c : ℕ) (r : Stepped) (v : View) (kind : Kind) → view_at r.after (place_of_client r.after c) ≡ v → same_due (due_for kind) (client_due v) ≡ true → goes_on (Client c) r kind ≡ gone (Client c) kind r (due_step r.after (Client c) kind)
+goes_next c r v kind view due = ap (λ (b : Bool). cond b (gone (Client c) kind r (due_step r.after (Client c) kind)) r) (ap (λ (y : View). same_due (due_for kind) (client_due y)) view ∙ due)
+
+goes_past : (c : ℕ) (r : Stepped) (v : View) (kind : Kind) → view_at r.after (place_of_client r.after c) ≡ v → same_due (due_for kind) (client_due v) ≡ false → goes_on (Client c) r kind ≡ r
+goes_past c r v kind view due = ap (λ (b : Bool). cond b (gone (Client c) kind r (due_step r.after (Client c) kind)) r) (ap (λ (y : View). same_due (due_for kind) (client_due y)) view ∙ due)
 
 module _ (w : Whole) (s : IsSound w) (c d n : ℕ) (has : HasClient w.setup c) (driver : HasDriver w.setup d) (count : IsCount n) (rest : due_at w c ≡ Rest) where
   -- the limit that the client takes in hand, and its view then
@@ -120,8 +127,8 @@ module _ (w : Whole) (s : IsSound w) (c d n : ℕ) (has : HasClient w.setup c) (
   first : (step_of w (Client c) (Look d)).after ≡ (look_of w c d).after
   first = in_turn w c (view_at w (place_of_client w c)) (Look d) refl (is_same Rest (due_at w c) (sym rest))
 
-  row_rest : same_due (due_at w c) Rest ≡ true
-  row_rest = is_same (due_at w c) Rest rest
+  take_is : take_of w c d n ≡ goes_on (Client c) (goes_on (Client c) (look_of w c d) (ToArm n)) ToDraw
+  take_is = call_rest w (Client c) (Look d) (ToArm n ∷ ToDraw ∷ []) refl rest
 
   -- what a state tells that has a view at rest
   leaves : (t : View) (cursor : ℕ) (bs : List Batch) (u : Whole) → u.setup ≡ w.setup → client_due t ≡ Rest → Has w c d t cursor bs u → LeavesRest w c d u
@@ -145,8 +152,8 @@ module _ (w : Whole) (s : IsSound w) (c d n : ℕ) (has : HasClient w.setup c) (
   look_ends reply answer view =
       let u = (look_of w c d).after in
       let h = looks w c d driver.pos driver.low (view_at w (place_of_client w c)) (cursor_of w d) w.batches w here (look_with None) view in
-      let end : take_of w c d n ≡ record { reply = reply; after = u } = take_rest w c d n row_rest
-      ∙ ap (λ (y : View). cond (same_due (client_due y) Arm) (take_armed c (arm_of u c n)) (look_of w c d)) h.view
+      let end : take_of w c d n ≡ record { reply = reply; after = u } = take_is
+      ∙ ap (λ (r : Stepped). goes_on (Client c) r ToDraw) (goes_past c (look_of w c d) (look_with None) (ToArm n) h.view refl) ∙ goes_past c (look_of w c d) (look_with None) ToDraw h.view refl
       ∙ ap (λ (y : Reply). let z : Stepped = record { reply = y; after = u } in z) answer in
       subst (λ (r : Stepped). Draws w c d (Look d ∷ []) reply (draw_state w c d) r) (sym end) record {
         row = sym first;
@@ -155,39 +162,39 @@ module _ (w : Whole) (s : IsSound w) (c d n : ℕ) (has : HasClient w.setup c) (
         rest = leaves (look_with None) (cursor_of w d) w.batches u refl refl h;
       }
 
+  -- what a look answers, and whether the limit is in hand then
+  abbrev LookIs : Reply → Bool → Type 0
+  LookIs reply taken = (looked_reply (limit_of w d) (view_at w (place_of_client w c)).seen ≡ reply) × (fresh (limit_of w d) (view_at w (place_of_client w c)) ≡ taken)
+
+  look_is : (reply : Reply) (taken : Bool) → (limit_of w d ≡ 0 → (NotLeader ≡ reply) × (false ≡ taken)) → (limit_of w d ≢ 0 → limit_of w d % 262144 < (view_at w (place_of_client w c)).seen.term → (Stale (view_at w (place_of_client w c)).seen.term ≡ reply) × (false ≡ taken))
+      → (limit_of w d ≢ 0 → (view_at w (place_of_client w c)).seen.term ≤ limit_of w d % 262144 → (Looked (limit_of w d % 262144) (limit_of w d / 262144) ≡ reply) × (true ≡ taken)) → LookIs reply taken
+  look_is reply taken none stale on = look_cases (λ (r : Reply) (b : Bool). (r ≡ reply) × (b ≡ taken)) (limit_of w d) (view_at w (place_of_client w c)) none stale on
+
   take_not_leader : limit_of w d ≡ 0 → Draws w c d (Look d ∷ []) NotLeader (draw_state w c d) (take_of w c d n)
-  take_not_leader none = look_ends NotLeader
-      (ap (λ (b : Bool). cond b NotLeader (cond (nat_lt (limit_of w d % 262144) (view_at w (place_of_client w c)).seen.term) (Stale (view_at w (place_of_client w c)).seen.term) (Looked (limit_of w d % 262144) (limit_of w d / 262144)))) (eq-eqb (limit_of w d) 0 none))
-      (ap (λ (b : Bool). look_with (cond (cond b false (cond (nat_lt (limit_of w d % 262144) (view_at w (place_of_client w c)).seen.term) false true)) (Some limit) None)) (eq-eqb (limit_of w d) 0 none))
+  take_not_leader none =
+      let is = look_is NotLeader false (λ _. (refl, refl)) (λ some _. absurd (some none)) (λ some _. absurd (some none)) in
+      look_ends NotLeader is.0 (ap (λ (b : Bool). look_with (cond b (Some limit) None)) is.1)
 
   module _ (some : limit_of w d ≢ 0) where
-    is_some : nat_eq (limit_of w d) 0 ≡ false
-    is_some = ne_eqb (limit_of w d) 0 some
-
-    past_none : looked_reply (limit_of w d) (view_at w (place_of_client w c)).seen ≡ cond (nat_lt (limit_of w d % 262144) (view_at w (place_of_client w c)).seen.term) (Stale (view_at w (place_of_client w c)).seen.term) (Looked (limit_of w d % 262144) (limit_of w d / 262144))
-    past_none = ap (λ (b : Bool). cond b NotLeader (cond (nat_lt (limit_of w d % 262144) (view_at w (place_of_client w c)).seen.term) (Stale (view_at w (place_of_client w c)).seen.term) (Looked (limit_of w d % 262144) (limit_of w d / 262144)))) is_some
-
-    view_past : looked d (limit_of w d) (view_at w (place_of_client w c)) ≡ look_with (cond (cond (nat_lt (limit_of w d % 262144) (view_at w (place_of_client w c)).seen.term) false true) (Some limit) None)
-    view_past = ap (λ (b : Bool). look_with (cond (cond b false (cond (nat_lt (limit_of w d % 262144) (view_at w (place_of_client w c)).seen.term) false true)) (Some limit) None)) is_some
-
     take_stale : limit_of w d % 262144 < (view_at w (place_of_client w c)).seen.term → Draws w c d (Look d ∷ []) (Stale (view_at w (place_of_client w c)).seen.term) (draw_state w c d) (take_of w c d n)
-    take_stale old = look_ends (Stale (view_at w (place_of_client w c)).seen.term)
-        (past_none ∙ ap (λ (b : Bool). cond b (Stale (view_at w (place_of_client w c)).seen.term) (Looked (limit_of w d % 262144) (limit_of w d / 262144))) (lt-ltb (limit_of w d % 262144) (view_at w (place_of_client w c)).seen.term old))
-        (view_past ∙ ap (λ (b : Bool). look_with (cond (cond b false true) (Some limit) None)) (lt-ltb (limit_of w d % 262144) (view_at w (place_of_client w c)).seen.term old))
+    take_stale old =
+        let is = look_is (Stale (view_at w (place_of_client w c)).seen.term) false (λ none. absurd (some none)) (λ _ _. (refl, refl)) (λ _ late. absurd (omega (arith, old, late))) in
+        look_ends (Stale (view_at w (place_of_client w c)).seen.term) is.0 (ap (λ (b : Bool). look_with (cond b (Some limit) None)) is.1)
 
-    module _ (fresh : (view_at w (place_of_client w c)).seen.term ≤ limit_of w d % 262144) where
+    module _ (late : (view_at w (place_of_client w c)).seen.term ≤ limit_of w d % 262144) where
       none_armed : (view_at w (place_of_client w c)).armed ≡ 0
       none_armed = (resting w s c has.pos has.low rest).1
 
       view_fresh : looked d (limit_of w d) (view_at w (place_of_client w c)) ≡ armed_with 0
-      view_fresh = view_past ∙ ap (λ (b : Bool). look_with (cond (cond b false true) (Some limit) None)) (le-ltb (limit_of w d % 262144) (view_at w (place_of_client w c)).seen.term fresh)
-          ∙ ap (λ (m : ℕ). armed_with m) none_armed
+      view_fresh =
+          let is = look_is (Looked (limit_of w d % 262144) (limit_of w d / 262144)) true (λ none. absurd (some none)) (λ _ old. absurd (omega (arith, old, late))) (λ _ _. (refl, refl)) in
+          ap (λ (b : Bool). look_with (cond b (Some limit) None)) is.1 ∙ ap (λ (m : ℕ). armed_with m) none_armed
 
       look_on : Has w c d (armed_with 0) (cursor_of w d) w.batches (look_of w c d).after
       look_on = looks w c d driver.pos driver.low (view_at w (place_of_client w c)) (cursor_of w d) w.batches w here (armed_with 0) view_fresh
 
-      take_arms : take_of w c d n ≡ take_armed c (arm_of (look_of w c d).after c n)
-      take_arms = take_rest w c d n row_rest ∙ ap (λ (y : View). cond (same_due (client_due y) Arm) (take_armed c (arm_of (look_of w c d).after c n)) (look_of w c d)) look_on.view
+      take_arms : take_of w c d n ≡ goes_on (Client c) (arm_of (look_of w c d).after c n) ToDraw
+      take_arms = take_is ∙ ap (λ (r : Stepped). goes_on (Client c) r ToDraw) (goes_next c (look_of w c d) (armed_with 0) (ToArm n) look_on.view refl)
 
       second : (step_of (look_of w c d).after (Client c) (ToArm n)).after ≡ (arm_of (look_of w c d).after c n).after
       second = in_turn (look_of w c d).after c (armed_with 0) (ToArm n) look_on.view refl
@@ -204,7 +211,7 @@ module _ (w : Whole) (s : IsSound w) (c d n : ℕ) (has : HasClient w.setup c) (
           let h = arms w c d driver.pos driver.low (armed_with 0) (cursor_of w d) w.batches u look_on refl n t (ap (λ (b : Bool). cond b t (armed_with n)) passed) in
           let answer = arm_answer ∙ ap (λ (b : Bool). cond b (Again (cursor_of w d) (limit_of w d / 262144) n) (Armed (cursor_of w d))) passed in
           let end : take_of w c d n ≡ record { reply = Again (cursor_of w d) (limit_of w d / 262144) n; after = x } = take_arms
-          ∙ ap (λ (y : View). cond (same_due (client_due y) Draw) (draw_of x c) (arm_of u c n)) h.view
+          ∙ goes_past c (arm_of u c n) t ToDraw h.view refl
           ∙ ap (λ (y : Reply). let z : Stepped = record { reply = y; after = x } in z) answer in
           subst (λ (r : Stepped). Draws w c d (Look d ∷ ToArm n ∷ []) (Again (cursor_of w d) (limit_of w d / 262144) n) (draw_state w c d) r) (sym end) record {
             row = sym second ∙ ap (λ (y : Whole). played y (Step (Client c) (ToArm n) ∷ [])) (sym first);
@@ -220,8 +227,11 @@ module _ (w : Whole) (s : IsSound w) (c d n : ℕ) (has : HasClient w.setup c) (
         some_count : nat_eq n 0 ≡ false
         some_count = ne_eqb n 0 (λ (none : n ≡ 0). omega (arith, none, count.some))
 
+        draw_due : same_due Draw (client_due (armed_with n)) ≡ true
+        draw_due = ap (λ (b : Bool). same_due Draw (cond b Arm Draw)) some_count
+
         third : (step_of (arm_of (look_of w c d).after c n).after (Client c) ToDraw).after ≡ (draw_of (arm_of (look_of w c d).after c n).after c).after
-        third = in_turn (arm_of (look_of w c d).after c n).after c (armed_with n) ToDraw arm_on.view (ap (λ (b : Bool). same_due Draw (cond b Arm Draw)) some_count)
+        third = in_turn (arm_of (look_of w c d).after c n).after c (armed_with n) ToDraw arm_on.view draw_due
 
         no_wrap : (cursor_of w d + n) % 2 ^ 64 ≡ cursor_of w d + n
         no_wrap =
@@ -241,8 +251,7 @@ module _ (w : Whole) (s : IsSound w) (c d n : ℕ) (has : HasClient w.setup c) (
             ∙ ap (λ (z : View). draw_reply (cursor_of w d) z) arm_on.view
             ∙ ap (λ (b : Bool). cond b (Again (cursor_of w d) (limit_of w d / 262144) n) (Got (next_batch w d n))) fit in
             let end : take_of w c d n ≡ record { reply = Got (next_batch w d n); after = y } = take_arms
-            ∙ ap (λ (z : View). cond (same_due (client_due z) Draw) (draw_of x c) (arm_of u c n)) arm_on.view
-            ∙ ap (λ (b : Bool). cond (same_due (cond b Arm Draw) Draw) (draw_of x c) (arm_of u c n)) some_count
+            ∙ goes_next c (arm_of u c n) (armed_with n) ToDraw arm_on.view draw_due
             ∙ ap (λ (z : Reply). let r : Stepped = record { reply = z; after = y } in r) answer in
             subst (λ (r : Stepped). Draws w c d (Look d ∷ ToArm n ∷ ToDraw ∷ []) (Got (next_batch w d n)) (grantee w d n) r) (sym end) record {
               row = sym third ∙ ap (λ (z : Whole). played z (Step (Client c) ToDraw ∷ [])) (sym second) ∙ ap (λ (z : Whole). played z (Step (Client c) (ToArm n) ∷ Step (Client c) ToDraw ∷ [])) (sym first);

@@ -17,7 +17,7 @@ use Rattle.tso_model.proofs.Joins.{joins}
 use Rattle.tso_model.proofs.Sums.{total-append, total-set}
 use Rattle.tso_core.specs.declared.reply.Due.TheVariants.{Rest}
 use Rattle.tso_core.specs.Whole.{Whole, place_of_client, view_at, turn_at, post_at}
-use Rattle.tso_core.specs.Rows.{due_at}
+use Rattle.tso_core.specs.Steps.{due_at}
 use Rattle.tso_core.specs.Notes.{note_left, note_met}
 use Rattle.tso_core.specs.Sound.{DriverFits, IsClient, IsNote, IsSound, waiting}
 use Rattle.tso_core.proofs.Drawn.{own, inside, fits_a, resting}

@@ -1,72 +1,59 @@
 -- The windows that an answer tells are those that its call leaves.
-use Rattle.std.proofs.Common.{◌≡◌, ℕ, ◌+◌, ◌-◌, ◌/◌, ◌%◌, ◌^◌, ◌<◌, ◌≤◌, max, Bool, true, false, cond, eqb, ltb, List, [], ◌∷◌, ◌++◌, refl, sym, ap, subst, ◌∙◌, ⊎_elim, arith, eq-eqb, lt-ltb}
-use Rattle.std.specs.Prelude.{Option, None, Some, nat_eq, nat_lt, slice_index}
+use Rattle.std.proofs.Common.{◌≡◌, ℕ, ◌+◌, ◌-◌, ◌^◌, ◌<◌, ◌≤◌, max, Bool, true, false, cond, eqb, ltb, List, [], ◌∷◌, ◌++◌, refl, sym, ap, subst, ◌∙◌, ⊎_elim, arith, eq-eqb, lt-ltb}
+use Rattle.std.specs.Prelude.{Option, None, Some, unwrap_or, slice_index}
+use Rattle.std.specs.List.{AllByRecursion}
 use mathlib.Core.Logic.{dite}
 use native.Mathlib.Decide.{ℕ_discrete, dec_le}
 use Rattle.pd_types.specs.declared.oracle.Actor.{Actor}
 use Rattle.pd_types.specs.declared.oracle.Actor.TheVariants.{Driver, Client, Store}
 use Rattle.pd_types.specs.declared.oracle.CellWord.{CellWord}
-use Rattle.pd_types.specs.declared.oracle.Seen.{Seen}
 use Rattle.pd_types.specs.declared.oracle.Window.{Window}
 use Rattle.tso_model.specs.declared.entries.Claim.{Claim}
-use Rattle.tso_model.specs.declared.view.View.{View}
 use Rattle.tso_model.specs.declared.plan.TheConstants.{AHEAD_MS}
 use Rattle.tso_model.specs.declared.step.WordStep.TheVariants.{LoadCell, RaiseCursor, StoreLimit, ClearLimit, LoadLimit, ArmCount, AddArmed}
 use Rattle.tso_model.specs.Words.{packed, cell_of, cell_word, window, IsOpen, passes}
 use Rattle.tso_model.specs.Moves.{spent_view}
-use Rattle.tso_model.specs.Plan.{end_of, past_clock, lead_next, tick_next, saves_for}
+use Rattle.tso_model.specs.Plan.{end_of, lead_next, tick_next}
 use Rattle.tso_model.specs.Ledger.{longer_last, windows_after}
 use Rattle.tso_model.specs.Steps.{held, held_or, hand, batch_of, new_claim, saved_window}
 use Rattle.tso_model.proofs.Basics.{by_bool, by_eq, by_lt, at_some}
 use Rattle.tso_model.proofs.Records.{longer_push}
 use Rattle.tso_core.specs.declared.plan.Decided.{Decided}
 use Rattle.tso_core.specs.declared.reply.Due.{Due}
-use Rattle.tso_core.specs.declared.reply.Due.TheVariants.{Rest, Campaign, Save, Raise, Publish, Arm, Draw}
+use Rattle.tso_core.specs.declared.reply.Due.TheVariants.{Rest, Save, Raise, Publish}
 use Rattle.tso_core.specs.declared.reply.Kind.{Kind}
-use Rattle.tso_core.specs.declared.reply.Kind.TheVariants.{Read, Campaign as ToCampaign, Save as ToSave, Probe, Publish as ToPublish, Resign, Look, Arm as ToArm, Draw as ToDraw}
+use Rattle.tso_core.specs.declared.reply.Kind.TheVariants.{Read, Campaign as ToCampaign, Save as ToSave, Probe, Raise as ToRaise, Publish as ToPublish, Resign, Look, Arm as ToArm, Draw as ToDraw}
 use Rattle.tso_core.specs.declared.reply.Reply.{Reply}
-use Rattle.tso_core.specs.declared.reply.Reply.TheVariants.{Got, Again, NotLeader, Stale, Told, Looked, Armed, Beaten, Lost, TermsSpent, ClockRange, Idle, NotLeading, Resigned, CellRead, Claimed, Saved, Probed}
-use Rattle.tso_core.specs.Due.{same_due, due_for, at_rest}
+use Rattle.tso_core.specs.declared.reply.Reply.TheVariants.{Got, Again, Told, Armed, Beaten, Lost, TermsSpent, ClockRange, Idle, NotLeading, Resigned, Claimed, Saved}
+use Rattle.tso_core.specs.Due.{same_due, due_for}
 use Rattle.tso_core.specs.Whole.{Whole, place_of_client, view_at, turn_at, post_at, found_by, made}
-use Rattle.tso_core.specs.Steps.{Stepped, out_of_turn, decided, read_decides, goes_to, probe_decides, its_publish, looked_reply, arm_reply, draw_reply, read_of, campaign_of, save_of, publish_of, resign_of, look_of, arm_of, draw_of, driver_step, client_step, step_of}
-use Rattle.tso_core.specs.Rows.{due_at, lead_of, tick_of, resigned_of, take_of, take_looked, take_armed}
+use Rattle.tso_core.specs.Steps.{Stepped, out_of_turn, decided, ends, goes, probe_decides, its_publish, read_of, campaign_of, save_of, due_at, move_of, due_step, step_of}
+use Rattle.tso_core.specs.Rows.{told, row, won, lead_kinds, tick_kinds, take_kinds, lead_of, tick_of, resigned_of, take_of}
+use Rattle.tso_core.specs.Says.{OfWindows, Stay, says}
 use Rattle.tso_core.specs.Notes.{tell_of, hear_of, heard_from, note_left}
 use Rattle.tso_core.specs.Sound.{IsSound, HasDriver, StandsAt}
 use Rattle.tso_core.specs.Asked.{HasActor}
-use Rattle.tso_core.specs.Laws.{windows_told, lengthened_by, longer_by, ended_at, last_end, driver_of}
+use Rattle.tso_core.specs.Laws.{windows_told, windows_with, lengthened_by, longer_by, ended_at, last_end, driver_of}
 use Rattle.tso_core.specs.WholeCalls.{DriverState, driver_state, Answers, cell_at, cursor_of, later_window, LeadTells, TickTells, ResignTells}
 use Rattle.tso_core.proofs.Bounds.{cell_fits, held_from}
+use Rattle.tso_core.proofs.Cases.{read_cases, goes_cases, look_cases}
 use Rattle.tso_core.proofs.Dues.{is_due}
 use Rattle.tso_core.proofs.Lasts.{older_of, all_are, its, its_fits, last_own}
 use Rattle.tso_core.proofs.Leading.{lead_tells, tick_tells}
 use Rattle.tso_core.proofs.Places.{at_get}
-use Rattle.tso_core.proofs.Rests.{lead_else, tick_else}
-
--- the answer tells of no window
-abbrev IsStill : Reply → Type 0
-IsStill r = (d : ℕ) (ws : List Window) → windows_told d r ws ≡ ws
+use Rattle.tso_core.proofs.Stepping.{OnMove, due_by, step_by, row_by, call_by, busy_call}
 
 -- the windows are those that the answer tells
 abbrev pub Shows : Whole → ℕ → Stepped → Type 0
 Shows w d r = r.after.windows ≡ windows_told d r.reply w.windows
 
-still_reply : (b : Bool) (x y : Reply) → IsStill x → IsStill y → IsStill (cond b x y)
-still_reply true x y hit miss = hit
-still_reply false x y hit miss = miss
+-- an answer that tells of no window leaves them
+record Still (w : Whole) (r : Stepped) : Type 0 where
+  same : r.after.windows ≡ w.windows
+  says_none : (says r.reply).windows ≡ Stay
 
-still_decided : (b : Bool) (x y : Decided) → IsStill x.reply → IsStill y.reply → IsStill (cond b x y).reply
-still_decided true x y hit miss = hit
-still_decided false x y hit miss = miss
-
-shows_cond : (w : Whole) (d : ℕ) (b : Bool) (x y : Stepped) → (b ≡ true → Shows w d x) → (b ≡ false → Shows w d y) → Shows w d (cond b x y)
-shows_cond w d true x y hit miss = hit refl
-shows_cond w d false x y hit miss = miss refl
-
-shows_still : (w : Whole) (d : ℕ) (r : Stepped) → r.after.windows ≡ w.windows → IsStill r.reply → Shows w d r
-shows_still w d r same still = same ∙ sym (still d w.windows)
-
-shows_out : (w : Whole) (d : ℕ) (due : Due) → Shows w d (out_of_turn w due)
-shows_out w d due = refl
+still_shows : (w : Whole) (d : ℕ) (r : Stepped) → Still w r → Shows w d r
+still_shows w d r still = still.same ∙ sym (ap (λ (o : OfWindows). windows_with d o w.windows) still.says_none)
 
 -- lists with a last window
 end_push : (ws : List Window) (w : Window) → last_end (ws ++ w ∷ []) ≡ w.hi
@@ -99,54 +86,62 @@ as_saved hi w inside = by_lt (λ b. (let x : Window = record w { lo = cond b w.l
 as_open : (hi : ℕ) (w : Window) → IsOpen w → ended_at hi w ≡ record w { hi = hi }
 as_open hi w is_open = ap (λ (b : Bool). let x : Window = record w { lo = cond b w.lo (max (hi - 3000) w.lo); hi = hi } in x) (lt-ltb w.lo w.hi is_open)
 
--- answers that tell of no window
-still_read : (cell : CellWord) (now : ℕ) → IsStill (read_decides cell now).reply
-still_read cell now = still_decided (nat_eq cell.term 262143) (record { reply = TermsSpent; turn = at_rest })
-    (cond (past_clock (lead_next cell.saved now)) (record { reply = ClockRange; turn = at_rest }) (record { reply = CellRead cell; turn = record { due = Campaign; next = lead_next cell.saved now; publishes = true } }))
-    (λ _ _. refl) (still_decided (past_clock (lead_next cell.saved now)) (record { reply = ClockRange; turn = at_rest }) (record { reply = CellRead cell; turn = record { due = Campaign; next = lead_next cell.saved now; publishes = true } }) (λ _ _. refl) (λ _ _. refl))
-
-still_goes : (hi cursor : ℕ) (o : Option ℕ) → IsStill (goes_to hi cursor o).reply
-still_goes hi cursor None = λ _ _. refl
-still_goes hi cursor (Some next) = still_decided (saves_for next hi)
-    (cond (past_clock next) (record { reply = ClockRange; turn = at_rest }) (record { reply = Probed cursor; turn = record { due = Save; next = next; publishes = true } }))
-    (record { reply = Probed cursor; turn = record { due = Raise; next = next; publishes = false } })
-    (still_decided (past_clock next) (record { reply = ClockRange; turn = at_rest }) (record { reply = Probed cursor; turn = record { due = Save; next = next; publishes = true } }) (λ _ _. refl) (λ _ _. refl)) (λ _ _. refl)
-
-still_looked : (word : ℕ) (seen : Seen) → IsStill (looked_reply word seen)
-still_looked word seen = still_reply (nat_eq word 0) NotLeader (cond (nat_lt (word % 262144) seen.term) (Stale seen.term) (Looked (word % 262144) (word / 262144)))
-    (λ _ _. refl) (still_reply (nat_lt (word % 262144) seen.term) (Stale seen.term) (Looked (word % 262144) (word / 262144)) (λ _ _. refl) (λ _ _. refl))
-
-still_armed : (at hi n : ℕ) → IsStill (arm_reply at hi n)
-still_armed at hi n = still_reply (passes at hi n) (Again at hi n) (Armed at) (λ _ _. refl) (λ _ _. refl)
-
-still_drawn : (at : ℕ) (v : View) → IsStill (draw_reply at v)
-still_drawn at v = still_reply (passes at (hand v).hi v.armed) (Again at (hand v).hi v.armed) (Got (batch_of at v)) (λ _ _. refl) (λ _ _. refl)
-
 -- the calls of a client
-module _ (w : Whole) (e : ℕ) where
-  client_shows : (c : ℕ) (kind : Kind) → Shows w e (client_step w c (due_at w c) kind)
-  client_shows c (Look d) = shows_still w e (look_of w c d) refl (still_looked (found_by w (place_of_client w c) (LoadLimit d)) (view_at w (place_of_client w c)).seen)
-  client_shows c (ToArm n) = shows_still w e (arm_of w c n) refl (still_armed (found_by w (place_of_client w c) (ArmCount n)) (hand (view_at w (place_of_client w c))).hi n)
-  client_shows c ToDraw = shows_still w e (draw_of w c) refl (still_drawn (found_by w (place_of_client w c) AddArmed) (view_at w (place_of_client w c)))
-  client_shows c kind = refl
+module _ (w : Whole) (c : ℕ) where
+  client_move : (kind : Kind) → OnMove (Still w) w (move_of (Client c) kind)
+  client_move (Look d) = record {
+    same = refl;
+    says_none = look_cases (λ (x : Reply) _. (says x).windows ≡ Stay) (found_by w (place_of_client w c) (LoadLimit d)) (view_at w (place_of_client w c)) (λ _. refl) (λ _ _. refl) (λ _ _. refl);
+  }
+  client_move (ToArm n) =
+      let at = found_by w (place_of_client w c) (ArmCount n) in
+      let hi = (hand (view_at w (place_of_client w c))).hi in
+      record { same = refl; says_none = by_bool (λ b. (says (cond b (Again at hi n) (Armed at))).windows ≡ Stay) (passes at hi n) (λ _. refl) (λ _. refl) }
+  client_move ToDraw =
+      let v = view_at w (place_of_client w c) in
+      let at = found_by w (place_of_client w c) AddArmed in
+      record { same = refl; says_none = by_bool (λ b. (says (cond b (Again at (hand v).hi v.armed) (Got (batch_of at v)))).windows ≡ Stay) (passes at (hand v).hi v.armed) (λ _. refl) (λ _. refl) }
+  client_move kind = tt
 
-  pub take_shows : (c d n : ℕ) → Shows w e (take_of w c d n)
-  take_shows c d n = shows_cond w e (same_due (due_at w c) Rest) (take_looked c n (look_of w c d)) (out_of_turn w (due_at w c))
-      (λ _. shows_cond w e (same_due (due_at (look_of w c d).after c) Arm) (take_armed c (arm_of (look_of w c d).after c n)) (look_of w c d)
-      (λ _. shows_cond w e (same_due (due_at (arm_of (look_of w c d).after c n).after c) Draw) (draw_of (arm_of (look_of w c d).after c n).after c) (arm_of (look_of w c d).after c n)
-      (λ _. shows_still w e (draw_of (arm_of (look_of w c d).after c n).after c) refl (still_drawn (found_by (arm_of (look_of w c d).after c n).after (place_of_client w c) AddArmed) (view_at (arm_of (look_of w c d).after c n).after (place_of_client w c))))
-      (λ _. shows_still w e (arm_of (look_of w c d).after c n) refl (still_armed (found_by (look_of w c d).after (place_of_client w c) (ArmCount n)) (hand (view_at (look_of w c d).after (place_of_client w c))).hi n)))
-      (λ _. client_shows c (Look d))) (λ _. refl)
+  heard_still : (post : List ℕ) → Still w (heard_from w c post)
+  heard_still [] = record { same = refl; says_none = refl }
+  heard_still (note ∷ rest) = record { same = refl; says_none = refl }
 
-  pub tell_shows : (from to : ℕ) → Shows w e (tell_of w from to)
-  tell_shows from to = shows_cond w e (same_due (due_at w from) Rest) (record { reply = Told; after = note_left w from to }) (out_of_turn w (due_at w from)) (λ _. refl) (λ _. refl)
+  out_still : (due : Due) → Still w (out_of_turn w due)
+  out_still due = record { same = refl; says_none = refl }
 
-  heard_shows : (c : ℕ) (post : List ℕ) → Shows w e (heard_from w c post)
-  heard_shows c [] = refl
-  heard_shows c (note ∷ rest) = refl
+-- the kinds that a client makes, whose answer is the row's
+abbrev IsOfClient : Kind → Type 0
+IsOfClient (Look d) = Unit {0}
+IsOfClient (ToArm n) = Unit {0}
+IsOfClient ToDraw = Unit {0}
+IsOfClient kind = ⊥
 
-  pub hear_shows : (c : ℕ) → Shows w e (hear_of w c)
-  hear_shows c = shows_cond w e (same_due (due_at w c) Rest) (heard_from w c (post_at w c)) (out_of_turn w (due_at w c)) (λ _. heard_shows c (post_at w c)) (λ _. refl)
+client_told : (P : Reply → Type 0) (kind : Kind) → IsOfClient kind → (c : ℕ) (w : Whole) (before reply : Reply) → P reply → P (unwrap_or (told kind (Client c) w before) reply)
+client_told P (Look d) is c w before reply own = own
+client_told P (ToArm n) is c w before reply own = own
+client_told P ToDraw is c w before reply own = own
+client_told P kind is c w before reply own = absurd is
+
+-- a row of a client tells of no window
+row_still : (w : Whole) (c : ℕ) (kinds : List Kind) → AllByRecursion IsOfClient kinds → (r : Stepped) → Still w r → Still w (row (Client c) kinds r)
+row_still w c kinds own r still = row_by (Still w) IsOfClient (Client c)
+    (λ u kind is _ p.
+    let s = due_by (Still u.after) u.after (Client c) kind (record { same = refl; says_none = refl }) (client_move u.after c kind) in
+    record { same = s.same ∙ p.same; says_none = client_told (λ (x : Reply). (says x).windows ≡ Stay) kind is c u.after u.reply (due_step u.after (Client c) kind).reply s.says_none }) kinds own r still
+
+pub take_shows : (w : Whole) (e c d n : ℕ) → Shows w e (take_of w c d n)
+take_shows w e c d n = still_shows w e (take_of w c d n) (by_bool (λ b. Still w (cond b (row (Client c) (take_kinds d n) (out_of_turn w (due_at w c))) (out_of_turn w (due_at w c)))) (same_due (due_at w c) Rest)
+    (λ _. row_still w c (take_kinds d n) (tt, (tt, (tt, tt))) (out_of_turn w (due_at w c)) (out_still w c (due_at w c))) (λ _. out_still w c (due_at w c)))
+
+still_else : (w : Whole) (e : ℕ) (due : Due) (r : Stepped) → Still w r → Shows w e (cond (same_due due Rest) r (out_of_turn w due))
+still_else w e due r still = by_bool (λ b. Shows w e (cond b r (out_of_turn w due))) (same_due due Rest) (λ _. still_shows w e r still) (λ _. refl)
+
+pub tell_shows : (w : Whole) (e from to : ℕ) → Shows w e (tell_of w from to)
+tell_shows w e from to = still_else w e (due_at w from) (record { reply = Told; after = note_left w from to }) (record { same = refl; says_none = refl })
+
+pub hear_shows : (w : Whole) (e c : ℕ) → Shows w e (hear_of w c)
+hear_shows w e c = still_else w e (due_at w c) (heard_from w c (post_at w c)) (heard_still w c (post_at w c))
 
 -- the calls of a driver
 module _ (w : Whole) (s : IsSound w) (d : ℕ) (has : HasDriver w.setup d) where
@@ -168,7 +163,7 @@ module _ (w : Whole) (s : IsSound w) (d : ℕ) (has : HasDriver w.setup d) where
   campaign_shows =
       let v = view_at w d in
       let n = slice_index w.words 0 in
-      by_eq (λ b. cond b (w.windows ++ (new_claim v).window ∷ []) w.windows ≡ windows_told d (cond {A = Decided} b (record { reply = Claimed (v.cell.term + 1); turn = record { due = Save; next = (turn_at w d).next; publishes = true } }) (record { reply = Beaten (cell_of n); turn = at_rest })).reply w.windows) n (cell_word v.cell)
+      by_eq (λ b. cond b (w.windows ++ (new_claim v).window ∷ []) w.windows ≡ windows_told d (cond {A = Decided} b (goes (Claimed (v.cell.term + 1)) Save (turn_at w d).next true) (ends (Beaten (cell_of n)))).reply w.windows) n (cell_word v.cell)
       (λ hit. λ i. w.windows ++ window (v.cell.term + 1) ((its w s d has).driver i) (known_end hit i) (known_end hit i) ∷ [])
       (λ _. refl)
 
@@ -190,21 +185,33 @@ module _ (w : Whole) (s : IsSound w) (d : ℕ) (has : HasDriver w.setup d) where
       let v = view_at w d in
       let n = slice_index w.words 0 in
       let next = (turn_at w d).next in
-      by_eq (λ b. cond b (longer_last (end_of next) w.windows) w.windows ≡ windows_told d (cond {A = Decided} b (record { reply = Saved (end_of next); turn = record { due = Raise; next = next; publishes = true } }) (record { reply = Lost (cell_of n); turn = record { due = Publish; next = 0; publishes = false } })).reply w.windows) n (packed (held v).hi (held v).term)
+      by_eq (λ b. cond b (longer_last (end_of next) w.windows) w.windows ≡ windows_told d (cond {A = Decided} b (goes (Saved (end_of next)) Raise next true) (goes (Lost (cell_of n)) Publish 0 false)).reply w.windows) n (packed (held v).hi (held v).term)
       (λ hit. save_long due hit) (λ _. refl)
 
-  publish_shows : Shows w d (publish_of w d)
-  publish_shows = by_bool (λ b. windows_after (cond b StoreLimit ClearLimit) (found_by w d (its_publish w d)) (view_at w d) w.windows ≡ w.windows) (turn_at w d).publishes (λ _. refl) (λ _. refl)
+  publish_same : (b : Bool) → windows_after (cond b StoreLimit ClearLimit) (found_by w d (its_publish w d)) (view_at w d) w.windows ≡ w.windows
+  publish_same true = refl
+  publish_same false = refl
 
-  driver_shows : (kind : Kind) → (turn_at w d).due ≡ due_for kind → Shows w d (driver_step w d (turn_at w d).due kind)
-  driver_shows (Read now) due = shows_still w d (read_of w d now) refl (still_read (cell_of (found_by w d LoadCell)) now)
-  driver_shows ToCampaign due = campaign_shows
-  driver_shows ToSave due = save_shows due
-  driver_shows (Probe now) due = shows_cond w d (view_at w d).holds (decided (made w d (RaiseCursor 0)) d (probe_decides (held (view_at w d)).hi now (found_by w d (RaiseCursor 0)))) (record { reply = NotLeading; after = w })
-      (λ _. shows_still w d (decided (made w d (RaiseCursor 0)) d (probe_decides (held (view_at w d)).hi now (found_by w d (RaiseCursor 0)))) refl (still_goes (held (view_at w d)).hi (found_by w d (RaiseCursor 0)) (tick_next (found_by w d (RaiseCursor 0)) (held (view_at w d)).hi now))) (λ _. refl)
-  driver_shows ToPublish due = publish_shows
-  driver_shows Resign due = shows_cond w d (view_at w d).holds (decided (made w d ClearLimit) d (record { reply = Resigned; turn = at_rest })) (record { reply = NotLeading; after = w }) (λ _. refl) (λ _. refl)
-  driver_shows kind due = refl
+  held_shows : (b : Bool) (r : Stepped) → Shows w d r → Shows w d (cond b r (record { reply = NotLeading; after = w }))
+  held_shows true r shows = shows
+  held_shows false r shows = refl
+
+  driver_move : (kind : Kind) → (turn_at w d).due ≡ due_for kind → OnMove (Shows w d) w (move_of (Driver d) kind)
+  driver_move (Read now) due = still_shows w d (read_of w d now) (record { same = refl; says_none = read_cases (λ (x : Decided). (says x.reply).windows ≡ Stay) (cell_of (found_by w d LoadCell)) now (λ _. refl) (λ _ _. refl) (λ _ _. refl) })
+  driver_move ToCampaign due = campaign_shows
+  driver_move ToSave due = save_shows due
+  driver_move (Probe now) due =
+      let hi = (held (view_at w d)).hi in
+      let n = found_by w d (RaiseCursor 0) in
+      let r : Stepped = decided (made w d (RaiseCursor 0)) d (probe_decides hi now n) in
+      held_shows (view_at w d).holds r (still_shows w d r (record {
+        same = refl;
+        says_none = goes_cases (λ (x : Decided). (says x.reply).windows ≡ Stay) hi n (tick_next n hi now) (λ _. refl) (λ _ _ _ _. refl) (λ _ _ _ _. refl) (λ _ _ _. refl);
+      }))
+  driver_move ToPublish due = publish_same (turn_at w d).publishes
+  driver_move Resign due = held_shows (view_at w d).holds (decided (made w d ClearLimit) d (ends Resigned)) refl
+  driver_move ToRaise due = refl
+  driver_move kind due = tt
 
   -- an answer by its state
   answered : (kinds : List Kind) (reply : Reply) (state : DriverState) (r : Stepped) → Answers w d kinds reply state r → state.windows ≡ windows_told d reply w.windows → Shows w d r
@@ -221,7 +228,8 @@ module _ (w : Whole) (s : IsSound w) (d : ℕ) (has : HasDriver w.setup d) where
 
   pub lead_shows : (now : ℕ) → Shows w d (lead_of w d now)
   lead_shows now = by_bool (λ b. same_due (turn_at w d).due Rest ≡ b → Shows w d (lead_of w d now)) (same_due (turn_at w d).due Rest)
-      (λ rest _. lead_rest_shows now (is_due (turn_at w d).due Rest rest)) (λ busy _. subst (λ (r : Stepped). Shows w d r) (sym (lead_else w d now busy)) refl) refl
+      (λ rest _. lead_rest_shows now (is_due (turn_at w d).due Rest rest))
+      (λ busy _. subst (λ (r : Stepped). Shows w d (won d r)) (sym (busy_call w (Driver d) (lead_kinds now) busy)) refl) refl
 
   -- a held end is no later than the last window's, so it makes nothing longer
   held_stays : lengthened_by d (held (view_at w d)).hi w.windows ≡ w.windows
@@ -268,15 +276,15 @@ module _ (w : Whole) (s : IsSound w) (d : ℕ) (has : HasDriver w.setup d) where
 
   pub tick_shows : (now : ℕ) → Shows w d (tick_of w d now)
   tick_shows now = by_bool (λ b. same_due (turn_at w d).due Rest ≡ b → Shows w d (tick_of w d now)) (same_due (turn_at w d).due Rest)
-      (λ rest _. tick_rest_shows now (is_due (turn_at w d).due Rest rest)) (λ busy _. subst (λ (r : Stepped). Shows w d r) (sym (tick_else w d now busy)) refl) refl
+      (λ rest _. tick_rest_shows now (is_due (turn_at w d).due Rest rest)) (λ busy _. subst (λ (r : Stepped). Shows w d r) (sym (busy_call w (Driver d) (tick_kinds now) busy)) refl) refl
 
   pub resign_shows : Shows w d (resigned_of w d)
-  resign_shows = shows_cond w d (same_due (turn_at w d).due Rest) (resign_of w d) (out_of_turn w (turn_at w d).due) (λ rest. driver_shows Resign (is_due (turn_at w d).due Rest rest)) (λ _. refl)
+  resign_shows = call_by (Shows w d) w (Driver d) Resign [] refl refl (λ rest. driver_move Resign rest)
 
-  pub driver_step_shows : (kind : Kind) → Shows w d (step_of w (Driver d) kind)
-  driver_step_shows kind = shows_cond w d (same_due (due_for kind) (turn_at w d).due) (driver_step w d (turn_at w d).due kind) (out_of_turn w (turn_at w d).due) (λ due. driver_shows kind (sym (is_due (due_for kind) (turn_at w d).due due))) (λ _. refl)
+  driver_step_shows : (kind : Kind) → Shows w d (step_of w (Driver d) kind)
+  driver_step_shows kind = step_by (Shows w d) w (Driver d) kind refl (driver_move kind)
 
 pub step_shows : (w : Whole) → IsSound w → (actor : Actor) (kind : Kind) → HasActor w.setup actor → Shows w (driver_of actor) (step_of w actor kind)
 step_shows w s (Driver d) kind has = driver_step_shows w s d has kind
-step_shows w s (Client c) kind has = shows_cond w 0 (same_due (due_for kind) (due_at w c)) (client_step w c (due_at w c) kind) (out_of_turn w (due_at w c)) (λ _. client_shows w 0 c kind) (λ _. refl)
-step_shows w s (Store n) kind has = refl
+step_shows w s (Client c) kind has = still_shows w 0 (step_of w (Client c) kind) (step_by (Still w) w (Client c) kind (out_still w c (due_at w c)) (λ _. client_move w c kind))
+step_shows w s (Store n) kind has = step_by (Shows w 0) w (Store n) kind refl (λ _. tt)

@@ -1,5 +1,5 @@
 -- What is true of every sound state, of every list of calls and of every answer.
-use Rattle.std.specs.Prelude.{◌≡◌, ◌≢◌, ℕ, ◌+◌, ◌-◌, ◌*◌, ◌≤◌, max, true, List, [], ◌∷◌, ◌++◌, map, All, slice_index, nat_eq, nat_lt, if◌then◌else◌}
+use Rattle.std.specs.Prelude.{◌≡◌, ◌≢◌, ℕ, ◌+◌, ◌-◌, ◌*◌, ◌≤◌, max, true, List, [], ◌∷◌, ◌++◌, map, All, Option, None, Some, IfSome, IsTrue, is_some, option_to_list, slice_index, nat_eq, nat_lt, if◌then◌else◌}
 use Rattle.pd_types.specs.declared.oracle.Actor.{Actor}
 use Rattle.pd_types.specs.declared.oracle.Actor.TheVariants.{Driver, Client, Store}
 use Rattle.pd_types.specs.declared.oracle.Batch.{Batch}
@@ -12,16 +12,16 @@ use Rattle.tso_model.specs.Moves.{greater, nothing_seen}
 use Rattle.tso_model.specs.Ledger.{IsWindowList, IsDrawList, place}
 use Rattle.tso_model.specs.OneHistory.{IsAbove}
 use Rattle.tso_core.specs.declared.reply.Kind.{Kind}
-use Rattle.tso_core.specs.declared.reply.Kind.TheVariants.{Look, Arm, Draw}
 use Rattle.tso_core.specs.declared.reply.Due.{Due}
 use Rattle.tso_core.specs.declared.reply.Due.TheVariants.{Rest, Draw as DrawDue}
 use Rattle.tso_core.specs.declared.reply.Reply.{Reply}
-use Rattle.tso_core.specs.declared.reply.Reply.TheVariants.{Won, Moved, Got, Again, Heard, OutOfTurn, Claimed, Saved}
+use Rattle.tso_core.specs.declared.reply.Reply.TheVariants.{Got, Again, OutOfTurn}
 use Rattle.tso_core.specs.Due.{due_for}
 use Rattle.tso_core.specs.Whole.{Whole, place_of_client, view_at}
-use Rattle.tso_core.specs.Steps.{Stepped, due_of, step_of, draw_of}
-use Rattle.tso_core.specs.Rows.{due_at, lead_of, tick_of, resigned_of, take_of}
+use Rattle.tso_core.specs.Steps.{Stepped, due_of, due_at, draw_of, move_of, step_of}
+use Rattle.tso_core.specs.Rows.{lead_of, tick_of, resigned_of, take_of}
 use Rattle.tso_core.specs.Notes.{tell_of, hear_of}
+use Rattle.tso_core.specs.Says.{OfWindows, Stay, Begin, BeginEmpty, End, HasPassed, says}
 use Rattle.tso_core.specs.Sound.{IsSound, HasDriver, HasClient}
 use Rattle.tso_core.specs.Asked.{HasActor, IsAsked, IsCount}
 
@@ -53,17 +53,9 @@ AgainPassed w = (actor : Actor) (kind : Kind) (at hi n : ℕ) → (step_of w act
 abbrev pub TakeAgainPassed : Whole → Type 0
 TakeAgainPassed w = (c d m at hi n : ℕ) → (take_of w c d m).reply ≡ Again at hi n → passes at hi n ≡ true
 
--- who makes steps of a kind: a client looks, arms and draws, and a driver makes all others
+-- who makes steps of a kind, by the table of moves: a client looks, arms and draws, and a driver makes all others
 abbrev pub Makes : Actor → Kind → Type 0
-Makes (Driver d) (Look e) = ⊥
-Makes (Driver d) (Arm n) = ⊥
-Makes (Driver d) Draw = ⊥
-Makes (Driver d) kind = Unit {0}
-Makes (Client c) (Look e) = Unit {0}
-Makes (Client c) (Arm n) = Unit {0}
-Makes (Client c) Draw = Unit {0}
-Makes (Client c) kind = ⊥
-Makes (Store s) kind = ⊥
+Makes actor kind = IsTrue (is_some (move_of actor kind))
 
 -- the kind is the actor's next
 abbrev pub IsNext : Whole → Actor → Kind → Type 0
@@ -90,10 +82,14 @@ pub record RefusesOutOfTurn (w : Whole) : Type 0 where
   pub tell : (from to : ℕ) → ComesAtRest w (due_of w (Client from)) (tell_of w from to)
   pub hear : (c : ℕ) → ComesAtRest w (due_of w (Client c)) (hear_of w c)
 
--- what an answer adds to the batches: the granted batch, behind all of its term and of lower terms, or nothing
+-- the batches with one that is granted, behind all of its term and of lower terms
+abbrev pub with_batch : Option Batch → List Batch → List Batch
+with_batch None bs = bs
+with_batch (Some b) bs = place b bs
+
+-- what an answer adds to the batches: the granted one, or nothing
 abbrev pub Adds : Reply → List Batch → List Batch → Type 0
-Adds (Got b) old new = new ≡ place b old
-Adds _ old new = new ≡ old
+Adds reply old new = new ≡ with_batch (says reply).batch old
 
 -- each call adds to the batches exactly what it answers
 pub record BatchesGrow (w : Whole) : Type 0 where
@@ -147,21 +143,18 @@ client_of (Store s) = 0
 abbrev pub seen_at : Whole → ℕ → Seen
 seen_at w c = (view_at w (place_of_client w c)).seen
 
--- the pair of a batch: its term and its last timestamp
-abbrev pub seen_of : Batch → Seen
-seen_of b = record { term = b.term; last = b.last }
-
 -- what an answer shows its caller: the pair of its batch, or of the note
 abbrev pub seen_by : Reply → List Seen
-seen_by (Got b) = seen_of b ∷ []
-seen_by (Heard note) = note ∷ []
-seen_by _ = []
+seen_by reply = option_to_list (says reply).pair
+
+-- the greater of what was seen and of a pair that is shown
+abbrev pub seen_with : Option Seen → Seen → Seen
+seen_with None seen = seen
+seen_with (Some pair) seen = greater seen pair
 
 -- what the caller of an answer has seen then: the greater of what it had seen, and of its batch or of a note
 abbrev pub learned : Reply → Seen → Seen
-learned (Got b) seen = greater seen (seen_of b)
-learned (Heard note) seen = greater seen note
-learned _ seen = seen
+learned reply seen = seen_with (says reply).pair seen
 
 -- the one pair is at most the other, by term and by number
 pub record IsUpTo (a b : Seen) : Type 0 where
@@ -188,19 +181,21 @@ lengthened_by d hi [] = []
 lengthened_by d hi (w ∷ []) = longer_by d hi w ∷ []
 lengthened_by d hi (w ∷ x ∷ ws) = w ∷ lengthened_by d hi (x ∷ ws)
 
+-- the windows as a driver told of them
+abbrev pub windows_with : ℕ → OfWindows → List Window → List Window
+windows_with d Stay ws = ws
+windows_with d (Begin term lo hi) ws = ws ++ window term d lo hi ∷ []
+windows_with d (BeginEmpty term) ws = ws ++ window term d (last_end ws) (last_end ws) ∷ []
+windows_with d (End hi) ws = lengthened_by d hi ws
+
 -- the windows after an answer of this driver, from the windows before it: what a reader of the printed answers can work out
 abbrev pub windows_told : ℕ → Reply → List Window → List Window
-windows_told d (Won term lo hi) ws = ws ++ window term d lo hi ∷ []
-windows_told d (Claimed term) ws = ws ++ window term d (last_end ws) (last_end ws) ∷ []
-windows_told d (Saved hi) ws = lengthened_by d hi ws
-windows_told d (Moved next hi) ws = lengthened_by d hi ws
-windows_told d _ ws = ws
+windows_told d reply ws = windows_with d (says reply).windows ws
 
--- a batch is above all that its caller had seen, and an `again` passed the end of its window or of the logical part
-abbrev pub IsFair : Reply → Seen → Type 0
-IsFair (Got b) seen = IsAbove seen b
-IsFair (Again at hi n) seen = passes at hi n ≡ true
-IsFair _ seen = Unit {0}
+-- A batch is above all that its caller had seen, and an `again` passed the end of its window or of the logical part
+pub record IsFair (reply : Reply) (seen : Seen) : Type 0 where
+  pub above : IfSome (says reply).batch (IsAbove seen)
+  pub passed : IfSome (says reply).refused HasPassed
 
 -- the driver of a step, 0 where a client makes it
 abbrev pub driver_of : Actor → ℕ

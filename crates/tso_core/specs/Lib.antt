@@ -9,6 +9,7 @@ pub mod Opened
 pub mod Ran
 pub mod Ready
 pub mod Rows
+pub mod Says
 pub mod Run
 pub mod Seat
 pub mod Seated

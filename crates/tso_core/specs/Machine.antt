@@ -1,5 +1,8 @@
 -- What the machine in memory means, and the room that a step of one actor finds there.
-use Rattle.std.specs.Prelude.{◌≡◌, ℕ, List, map, min, get_or}
+use Rattle.std.specs.Prelude.{◌≡◌, ℕ, ◌+◌, List, map, min, get_or}
+use Rattle.pd_types.specs.declared.oracle.Actor.{Actor}
+use Rattle.pd_types.specs.declared.oracle.Actor.TheVariants.{Driver, Client, Store}
+use Rattle.tso_model.specs.declared.view.Setup.{Setup}
 use Rattle.tso_core.specs.declared.machine.Machine.{Machine}
 use Rattle.tso_core.specs.declared.post.Post.{Post}
 use Rattle.tso_core.specs.declared.reply.Due.{Due}
@@ -7,11 +10,11 @@ use Rattle.tso_core.specs.declared.reply.Reply.{Reply}
 use Rattle.tso_core.specs.declared.turn.Turn.{Turn}
 use Rattle.tso_core.specs.Seated.{view_of, no_seat}
 use Rattle.tso_core.specs.Whole.{Whole, view_at, turn_at, found_by, made}
-use Rattle.tso_core.specs.Steps.{Stepped, decided}
+use Rattle.tso_core.specs.Steps.{Stepped, decided, due_at, due_of}
 use Rattle.tso_model.specs.declared.step.WordStep.{WordStep}
 use Rattle.tso_core.specs.declared.done.Done.{Done}
 use Rattle.tso_core.specs.Done.{done_of, reply_of, follow, step_due}
-use Rattle.tso_core.specs.Rows.{due_at}
+use Rattle.tso_core.specs.Asked.{HasActor}
 use Rattle.tso_core.specs.Sound.{IsSound, HasDriver, HasClient}
 
 -- the notes of a post, the oldest first
@@ -34,13 +37,25 @@ whole_of m = record {
 abbrev pub room_at : Machine → ℕ → ℕ
 room_at m id = min (get_or m.seats.items id no_seat).spare m.run.spare
 
--- the machine is sound, and this is the step that is the driver's next
+-- the actor's place among the seats; a store has none, and stands for the base, which makes no step
+abbrev pub place_of : Setup → Actor → ℕ
+place_of k (Driver d) = d
+place_of k (Client c) = k.drivers + c
+place_of k (Store s) = 0
+
+-- the machine is sound, and this is the step that is the actor's next
+pub record IsAt (next : Due) (actor : Actor) (m : Machine) : Type 0 where
+  pub sound : IsSound (whole_of m)
+  pub has : HasActor m.setup actor
+  pub due : due_of (whole_of m) actor ≡ next
+
+-- the same of a driver
 pub record DriverAt (next : Due) (d : ℕ) (m : Machine) : Type 0 where
   pub sound : IsSound (whole_of m)
   pub driver : HasDriver m.setup d
   pub due : (turn_at (whole_of m) d).due ≡ next
 
--- the machine is sound, and this is the step that is the client's next
+-- the same of a client
 pub record ClientAt (next : Due) (c : ℕ) (m : Machine) : Type 0 where
   pub sound : IsSound (whole_of m)
   pub client : HasClient m.setup c

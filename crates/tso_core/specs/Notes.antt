@@ -5,8 +5,7 @@ use Rattle.tso_core.specs.declared.reply.Due.TheVariants.{Rest}
 use Rattle.tso_core.specs.declared.reply.Reply.TheVariants.{Told, Heard, Nothing}
 use Rattle.tso_core.specs.Due.{same_due}
 use Rattle.tso_core.specs.Whole.{Whole, place_of_client, view_at, post_at}
-use Rattle.tso_core.specs.Steps.{Stepped, out_of_turn}
-use Rattle.tso_core.specs.Rows.{due_at}
+use Rattle.tso_core.specs.Steps.{Stepped, out_of_turn, due_at}
 
 -- a note of this client is split off and waits for the other
 abbrev pub note_left : Whole → ℕ → ℕ → Whole

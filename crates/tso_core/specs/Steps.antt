@@ -1,5 +1,5 @@
 -- Each single step with its answer: what it finds decides what the actor does next.
-use Rattle.std.specs.Prelude.{ℕ, ◌+◌, ◌*◌, ◌/◌, ◌%◌, max, true, false, Option, None, Some, nat_eq, nat_lt, ◌==◌, if◌then◌else◌}
+use Rattle.std.specs.Prelude.{ℕ, ◌+◌, ◌*◌, ◌/◌, ◌%◌, max, Bool, true, false, Option, None, Some, nat_eq, nat_lt, ◌==◌, if◌then◌else◌}
 use Rattle.pd_types.specs.declared.oracle.CellWord.{CellWord}
 use Rattle.pd_types.specs.declared.oracle.Seen.{Seen}
 use Rattle.pd_types.specs.declared.oracle.Window.{Window}
@@ -36,12 +36,20 @@ out_of_turn w due = record { reply = OutOfTurn due; after = w }
 abbrev pub decided : Whole → ℕ → Decided → Stepped
 decided w d r = record { reply = r.reply; after = turned w d r.turn }
 
+-- the call ends with this answer
+abbrev pub ends : Reply → Decided
+ends reply = record { reply = reply; turn = at_rest }
+
+-- this answer is followed by another step
+abbrev pub goes : Reply → Due → ℕ → Bool → Decided
+goes reply due next publishes = record { reply = reply; turn = record { due = due; next = next; publishes = publishes } }
+
 -- a cell that was read at a moment: a campaign is next where there is a term and a time left
 abbrev pub read_decides : CellWord → ℕ → Decided
 read_decides cell now =
-    if nat_eq cell.term 262143 then record { reply = TermsSpent; turn = at_rest }
-    else if past_clock (lead_next cell.saved now) then record { reply = ClockRange; turn = at_rest }
-    else record { reply = CellRead cell; turn = record { due = Campaign; next = lead_next cell.saved now; publishes = true } }
+    if nat_eq cell.term 262143 then ends TermsSpent
+    else if past_clock (lead_next cell.saved now) then ends ClockRange
+    else goes (CellRead cell) Campaign (lead_next cell.saved now) true
 
 -- a driver reads the cell
 abbrev pub read_of : Whole → ℕ → ℕ → Stepped
@@ -50,8 +58,7 @@ read_of w d now = decided (made w d LoadCell) d (read_decides (cell_of (found_by
 -- the next term is claimed where the cell was still the known one, and a save is next
 abbrev pub campaign_decides : CellWord → ℕ → ℕ → Decided
 campaign_decides known next found =
-    if found == cell_word known then record { reply = Claimed (known.term + 1); turn = record { due = Save; next = next; publishes = true } }
-    else record { reply = Beaten (cell_of found); turn = at_rest }
+    if found == cell_word known then goes (Claimed (known.term + 1)) Save next true else ends (Beaten (cell_of found))
 
 -- a driver campaigns
 abbrev pub campaign_of : Whole → ℕ → Stepped
@@ -60,8 +67,7 @@ campaign_of w d = decided (made w d ClaimTerm) d (campaign_decides (view_at w d)
 -- a later end is saved where the cell was the own window's end and term, and a raise is next; else a publish of 0
 abbrev pub save_decides : Window → ℕ → ℕ → Decided
 save_decides own next found =
-    if found == packed own.hi own.term then record { reply = Saved (end_of next); turn = record { due = Raise; next = next; publishes = true } }
-    else record { reply = Lost (cell_of found); turn = record { due = Publish; next = 0; publishes = false } }
+    if found == packed own.hi own.term then goes (Saved (end_of next)) Raise next true else goes (Lost (cell_of found)) Publish 0 false
 
 -- the save that is due for the driver
 abbrev pub its_save : Whole → ℕ → WordStep
@@ -96,19 +102,18 @@ its_end w d = if (turn_at w d).publishes then (held (view_at w d)).hi else 0
 
 -- a driver publishes
 abbrev pub publish_of : Whole → ℕ → Stepped
-publish_of w d = decided (made w d (its_publish w d)) d (record { reply = Published (its_end w d); turn = at_rest })
+publish_of w d = decided (made w d (its_publish w d)) d (ends (Published (its_end w d)))
 
 -- a save is next where at most a millisecond of the held window is left, else a raise
 abbrev pub moves_to : ℕ → ℕ → ℕ → Decided
 moves_to hi cursor next =
     if saves_for next hi then
-    (if past_clock next then record { reply = ClockRange; turn = at_rest }
-    else record { reply = Probed cursor; turn = record { due = Save; next = next; publishes = true } })
-    else record { reply = Probed cursor; turn = record { due = Raise; next = next; publishes = false } }
+    (if past_clock next then ends ClockRange else goes (Probed cursor) Save next true)
+    else goes (Probed cursor) Raise next false
 
 -- what a tick does with the cursor that its probe found
 abbrev pub goes_to : ℕ → ℕ → Option ℕ → Decided
-goes_to hi cursor None = record { reply = Idle; turn = at_rest }
+goes_to hi cursor None = ends Idle
 goes_to hi cursor (Some next) = moves_to hi cursor next
 
 -- what a tick does over this held end, at this moment, with this cursor
@@ -124,7 +129,7 @@ probe_of w d now =
 -- a driver with a term stores 0 and holds none
 abbrev pub resign_of : Whole → ℕ → Stepped
 resign_of w d =
-    if (view_at w d).holds then decided (made w d ClearLimit) d (record { reply = Resigned; turn = at_rest })
+    if (view_at w d).holds then decided (made w d ClearLimit) d (ends Resigned)
     else record { reply = NotLeading; after = w }
 
 -- what a limit word tells a client that has seen this
@@ -175,26 +180,33 @@ due_of w (Driver d) = (turn_at w d).due
 due_of w (Client c) = client_due (view_at w (place_of_client w c))
 due_of w (Store s) = Rest
 
--- the step of a driver that is at this due
-abbrev pub driver_step : Whole → ℕ → Due → Kind → Stepped
-driver_step w d due (Read now) = read_of w d now
-driver_step w d due ToCampaign = campaign_of w d
-driver_step w d due ToSave = save_of w d
-driver_step w d due (Probe now) = probe_of w d now
-driver_step w d due ToRaise = raise_of w d
-driver_step w d due ToPublish = publish_of w d
-driver_step w d due Resign = resign_of w d
-driver_step w d due kind = out_of_turn w due
+-- what is next for the client
+abbrev pub due_at : Whole → ℕ → Due
+due_at w c = client_due (view_at w (place_of_client w c))
 
--- the step of a client that is at this due
-abbrev pub client_step : Whole → ℕ → Due → Kind → Stepped
-client_step w c due (Look d) = look_of w c d
-client_step w c due (ToArm n) = arm_of w c n
-client_step w c due ToDraw = draw_of w c
-client_step w c due kind = out_of_turn w due
+-- The table of moves: what the step of a kind is for an actor. Clients look, arm and draw, drivers make all others, and stores none
+abbrev pub move_of : Actor → Kind → Option (Whole → Stepped)
+move_of (Driver d) (Read now) = Some (λ w. read_of w d now)
+move_of (Driver d) ToCampaign = Some (λ w. campaign_of w d)
+move_of (Driver d) ToSave = Some (λ w. save_of w d)
+move_of (Driver d) (Probe now) = Some (λ w. probe_of w d now)
+move_of (Driver d) ToRaise = Some (λ w. raise_of w d)
+move_of (Driver d) ToPublish = Some (λ w. publish_of w d)
+move_of (Driver d) Resign = Some (λ w. resign_of w d)
+move_of (Client c) (Look d) = Some (λ w. look_of w c d)
+move_of (Client c) (ToArm n) = Some (λ w. arm_of w c n)
+move_of (Client c) ToDraw = Some (λ w. draw_of w c)
+move_of actor kind = None
+
+-- the move, or where there is none the refusal at this due
+abbrev pub moved_or : Due → Option (Whole → Stepped) → Whole → Stepped
+moved_or due None w = out_of_turn w due
+moved_or due (Some move) w = move w
+
+-- the step of a kind that comes at the actor's due
+abbrev pub due_step : Whole → Actor → Kind → Stepped
+due_step w actor kind = moved_or (due_for kind) (move_of actor kind) w
 
 -- one step of any actor: what it is, where it is next for that actor, else nothing
 abbrev pub step_of : Whole → Actor → Kind → Stepped
-step_of w (Driver d) kind = if same_due (due_for kind) (turn_at w d).due then driver_step w d (turn_at w d).due kind else out_of_turn w (turn_at w d).due
-step_of w (Client c) kind = if same_due (due_for kind) (due_of w (Client c)) then client_step w c (due_of w (Client c)) kind else out_of_turn w (due_of w (Client c))
-step_of w (Store s) kind = out_of_turn w Rest
+step_of w actor kind = if same_due (due_for kind) (due_of w actor) then due_step w actor kind else out_of_turn w (due_of w actor)

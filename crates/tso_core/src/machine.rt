@@ -2,18 +2,17 @@
 ghost use Rattle.std.specs.Prelude.{◌≡◌, ◌-◌, ◌<◌, ◌≤◌, length, OnOk};
 ghost use Rattle.tso_core.specs.Asked.{HasActor};
 ghost use Rattle.tso_core.specs.Done.{done_of};
-ghost use Rattle.tso_core.specs.Due.{same_due};
-ghost use Rattle.tso_core.specs.Machine.{whole_of, room_at};
-ghost use Rattle.tso_core.specs.Rows.{due_at};
-ghost use Rattle.tso_core.specs.Sound.{IsSound, MayMake, HasDriver, HasClient};
+ghost use Rattle.tso_core.specs.Machine.{whole_of, place_of, room_at};
 ghost use Rattle.tso_core.specs.Steps.{due_of};
-ghost use Rattle.tso_core.specs.Whole.{place_of_client, view_at, turn_at, found_by, made};
+ghost use Rattle.tso_core.specs.Sound.{IsSound, MayMake, HasDriver};
+ghost use Rattle.tso_core.specs.Whole.{view_at, turn_at, found_by, made};
+ghost use Rattle.tso_model.specs.Steps.{held};
 
 use crate::post::Post;
 use crate::run::Run;
 use crate::seat::Seat;
 use crate::{Done, Due, Turn};
-use pd_types::{Actor, NoMemory};
+use pd_types::{Actor, NoMemory, Window};
 use tso_model::{Setup, WordStep};
 
 /// The oracle: its words, what each actor knows, where each stands, and the lists of its run.
@@ -65,11 +64,16 @@ impl Machine {
         Made { found, done }
     }
 
-    /// The client's place among the seats.
-    pub fn place(&self, client: u8) -> usize
-        ensures value { result ≡ place_of_client (whole_of self.now) client }
+    /// The actor's place among the seats. A store has none, and stands for the base, which makes no
+    /// step.
+    pub fn place(&self, actor: Actor) -> usize
+        ensures value { result ≡ place_of self.now.setup actor }
     {
-        self.setup.drivers as usize + client as usize
+        match actor {
+            Actor::Driver(driver) => driver as usize,
+            Actor::Client(client) => self.setup.drivers as usize + client as usize,
+            Actor::Store(_) => 0,
+        }
     }
 
     /// Where the driver stands.
@@ -89,26 +93,17 @@ impl Machine {
     {
         match actor {
             Actor::Driver(driver) => self.turn(driver).due,
-            Actor::Client(client) => self.seats[self.place(client)].due(),
+            Actor::Client(_) => self.seats[self.place(actor)].due(),
             Actor::Store(_) => Due::Rest,
         }
     }
 
-    /// Whether this is the driver's next step.
-    pub fn is_driver_at(&self, driver: u8, due: Due) -> bool
+    /// The driver's latest window.
+    pub fn window(&self, driver: u8) -> Window
         requires sound { IsSound (whole_of self.now) }
         requires driver { HasDriver self.now.setup driver }
-        ensures value { result ≡ same_due (turn_at (whole_of self.now) driver).due due }
+        ensures value { result ≡ held (view_at (whole_of self.now) driver) }
     {
-        self.turn(driver).due.is(due)
-    }
-
-    /// Whether this is the client's next step.
-    pub fn is_client_at(&self, client: u8, due: Due) -> bool
-        requires sound { IsSound (whole_of self.now) }
-        requires client { HasClient self.now.setup client }
-        ensures value { result ≡ same_due (due_at (whole_of self.now) client) due }
-    {
-        self.due(Actor::Client(client)).is(due)
+        self.seats[driver as usize].held()
     }
 }

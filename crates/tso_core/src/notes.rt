@@ -9,7 +9,7 @@ ghost use Rattle.tso_core.specs.Whole.{place_of_client, post_at};
 
 use crate::Reply;
 use crate::machine::Machine;
-use pd_types::NoMemory;
+use pd_types::{Actor, NoMemory};
 use std::alloc::Global;
 
 impl Machine {
@@ -22,7 +22,7 @@ impl Machine {
         ensures sound { IsSound (whole_of self.new) }
         ensures setup { self.new.setup ≡ self.old.setup }
     {
-        let place = self.place(from);
+        let place = self.place(Actor::Client(from));
         let note = self.seats[place].note(alloc);
         self.seats.reserve(1)?;
         self.posts[to as usize].leave(self.seats.len())?;
@@ -38,7 +38,7 @@ impl Machine {
         ensures sound { IsSound (whole_of self.new) }
         ensures setup { self.new.setup ≡ self.old.setup }
     {
-        let place = self.place(client);
+        let place = self.place(Actor::Client(client));
         match self.posts[client as usize].take() {
             None => Reply::Nothing,
             Some(note) => {

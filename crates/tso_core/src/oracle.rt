@@ -81,17 +81,8 @@ impl Core {
         if !kind.due().is(due) {
             return Ok(Reply::OutOfTurn { expected: due });
         }
-        match actor {
-            Actor::Driver(driver) => {
-                self.machine.reserve(driver as usize, 1)?;
-                Ok(self.machine.driver_step(driver, kind))
-            }
-            Actor::Client(client) => {
-                self.machine.reserve(self.machine.place(client), 1)?;
-                Ok(self.machine.client_step(client, kind))
-            }
-            Actor::Store(_) => Ok(Reply::OutOfTurn { expected: due }),
-        }
+        self.machine.reserve(self.machine.place(actor), 1)?;
+        Ok(self.machine.step(actor, kind))
     }
 
     /// A driver campaigns at a moment, in milliseconds: a read, a campaign, a save, a raise and a
@@ -104,12 +95,15 @@ impl Core {
         ensures sound { IsSound self.new }
         ensures setup { self.new.setup ≡ self.old.setup }
     {
-        let due = self.machine.turn(driver).due;
-        if !due.is(Due::Rest) {
-            return Ok(Reply::OutOfTurn { expected: due });
-        }
-        self.machine.reserve(driver as usize, 5)?;
-        Ok(self.machine.lead(driver, now))
+        let kinds = [
+            Kind::Read { now },
+            Kind::Campaign,
+            Kind::Save,
+            Kind::Raise,
+            Kind::Publish,
+        ];
+        let answer = self.machine.call(Actor::Driver(driver), &kinds)?;
+        Ok(self.machine.won(driver, answer))
     }
 
     /// A driver that leads goes on with the clock, at a moment in milliseconds: a probe, at times a
@@ -122,12 +116,8 @@ impl Core {
         ensures sound { IsSound self.new }
         ensures setup { self.new.setup ≡ self.old.setup }
     {
-        let due = self.machine.turn(driver).due;
-        if !due.is(Due::Rest) {
-            return Ok(Reply::OutOfTurn { expected: due });
-        }
-        self.machine.reserve(driver as usize, 4)?;
-        Ok(self.machine.tick(driver, now))
+        let kinds = [Kind::Probe { now }, Kind::Save, Kind::Raise, Kind::Publish];
+        self.machine.call(Actor::Driver(driver), &kinds)
     }
 
     /// A driver gives up its term. `OutOfTurn` where it is not at rest.
@@ -139,12 +129,7 @@ impl Core {
         ensures sound { IsSound self.new }
         ensures setup { self.new.setup ≡ self.old.setup }
     {
-        let due = self.machine.turn(driver).due;
-        if !due.is(Due::Rest) {
-            return Ok(Reply::OutOfTurn { expected: due });
-        }
-        self.machine.reserve(driver as usize, 1)?;
-        Ok(self.machine.driver_step(driver, Kind::Resign))
+        self.machine.call(Actor::Driver(driver), &[Kind::Resign])
     }
 
     /// A client asks a driver for `n` timestamps, 1 to 262,143: a look, an arm and a draw in a row,
@@ -159,12 +144,8 @@ impl Core {
         ensures sound { IsSound self.new }
         ensures setup { self.new.setup ≡ self.old.setup }
     {
-        let due = self.machine.due(Actor::Client(client));
-        if !due.is(Due::Rest) {
-            return Ok(Reply::OutOfTurn { expected: due });
-        }
-        self.machine.reserve(self.machine.place(client), 3)?;
-        Ok(self.machine.take(client, driver, n))
+        let kinds = [Kind::Look { driver }, Kind::Arm { n }, Kind::Draw];
+        self.machine.call(Actor::Client(client), &kinds)
     }
 
     /// A client leaves a note of what it has seen for another client, or for itself. `OutOfTurn` where
@@ -198,7 +179,8 @@ impl Core {
     {
         let due = self.machine.due(Actor::Client(client));
         if due.is(Due::Rest) {
-            self.machine.reserve(self.machine.place(client), 1)?;
+            self.machine
+                .reserve(self.machine.place(Actor::Client(client)), 1)?;
             return Ok(self.machine.meet(client));
         }
         Ok(Reply::OutOfTurn { expected: due })

@@ -4,24 +4,45 @@ ghost use Rattle.tso_core.specs.declared.reply.Due.TheVariants.{Rest};
 ghost use Rattle.tso_core.specs.declared.reply.Reply.TheVariants.{OutOfTurn};
 ghost use Rattle.tso_core.specs.Asked.{IsAsked};
 ghost use Rattle.tso_core.specs.Due.{due_for};
-ghost use Rattle.tso_core.specs.Machine.{whole_of, room_at, went_on, DriverAt, ClientAt, Answers};
-ghost use Rattle.tso_core.specs.Sound.{IsSound};
-ghost use Rattle.tso_core.specs.Steps.{driver_step, client_step, read_of, probe_of, resign_of};
-ghost use Rattle.tso_core.specs.Whole.{place_of_client, turn_at};
+ghost use Rattle.tso_core.specs.Machine.{whole_of, place_of, room_at, went_on, IsAt, DriverAt, Answers};
+ghost use Rattle.tso_core.specs.Steps.{due_step, read_of, probe_of, resign_of};
+ghost use Rattle.pd_types.specs.declared.oracle.Actor.TheVariants.{Driver};
+ghost use Rattle.tso_core.specs.Whole.{turn_at};
 
 use crate::machine::Machine;
 use crate::plan::{after_probe, after_read};
 use crate::{Kind, Reply, Turn};
+use pd_types::Actor;
 use tso_model::{WordStep, cell_in};
 
 impl Machine {
-    /// The step of a driver for which one of this kind is next.
-    pub fn driver_step(&mut self, driver: u8, kind: Kind) -> Reply
+    /// The step of an actor for which one of this kind is next.
+    pub fn step(&mut self, actor: Actor, kind: Kind) -> Reply
+        requires at { IsAt (due_for kind) actor self.old }
+        requires kind { IsAsked self.old.setup kind }
+        requires room { 0 < room_at self.old (place_of self.old.setup actor) }
+        ensures answers { Answers result self.new (due_step (whole_of self.old) actor kind) }
+        ensures room { room_at self.old (place_of self.old.setup actor) ≤ room_at self.new (place_of self.old.setup actor) + 1 }
+    {
+        let id = self.place(actor);
+        match actor {
+            Actor::Driver(driver) => self.drive(driver, kind),
+            Actor::Client(_) => match kind {
+                Kind::Look { driver } => self.make(id, WordStep::LoadLimit { driver }).done.reply(),
+                Kind::Arm { n } => self.make(id, WordStep::ArmCount { n }).done.reply(),
+                Kind::Draw => self.make(id, WordStep::AddArmed).done.reply(),
+                // All other steps are a driver's.
+                _ => out_of_turn(kind),
+            },
+            Actor::Store(_) => out_of_turn(kind),
+        }
+    }
+
+    // The same of a driver.
+    fn drive(&mut self, driver: u8, kind: Kind) -> Reply
         requires at { DriverAt (due_for kind) driver self.old }
         requires room { 0 < room_at self.old driver }
-        ensures answers { Answers result self.new (driver_step (whole_of self.old) driver (due_for kind) kind) }
-        ensures sound { IsSound (whole_of self.new) }
-        ensures setup { self.new.setup ≡ self.old.setup }
+        ensures answers { Answers result self.new (due_step (whole_of self.old) (Driver driver) kind) }
         ensures room { room_at self.old driver ≤ room_at self.new driver + 1 }
     {
         match kind {
@@ -95,26 +116,6 @@ impl Machine {
         let done = self.make(driver as usize, turn.step()).done;
         self.turns[driver as usize] = turn.after(done);
         done.reply()
-    }
-
-    /// The step of a client for which one of this kind is next.
-    pub fn client_step(&mut self, client: u8, kind: Kind) -> Reply
-        requires at { ClientAt (due_for kind) client self.old }
-        requires kind { IsAsked self.old.setup kind }
-        requires room { 0 < room_at self.old (place_of_client (whole_of self.old) client) }
-        ensures answers { Answers result self.new (client_step (whole_of self.old) client (due_for kind) kind) }
-        ensures sound { IsSound (whole_of self.new) }
-        ensures setup { self.new.setup ≡ self.old.setup }
-        ensures room { room_at self.old (place_of_client (whole_of self.old) client) ≤ room_at self.new (place_of_client (whole_of self.old) client) + 1 }
-    {
-        let id = self.place(client);
-        match kind {
-            Kind::Look { driver } => self.make(id, WordStep::LoadLimit { driver }).done.reply(),
-            Kind::Arm { n } => self.make(id, WordStep::ArmCount { n }).done.reply(),
-            Kind::Draw => self.make(id, WordStep::AddArmed).done.reply(),
-            // All other steps are a driver's.
-            _ => out_of_turn(kind),
-        }
     }
 }
 

@@ -1,5 +1,4 @@
-use Rattle.tso_core.proofs.Fair.{again_passed, take_again_passed, refuses_out_of_turn}
-use Rattle.tso_core.proofs.Grown.{batches_grow}
+use Rattle.tso_core.proofs.Saying.{again_passed, take_again_passed, refuses_out_of_turn, batches_grow}
 use Rattle.tso_core.proofs.laws.every_answer_tells.Goals as goal
 
 pub returns : goal.returns

@@ -1,4 +1,4 @@
-use Rattle.tso_core.proofs.Steady.{each_list_keeps}
+use Rattle.tso_core.proofs.Telling.{each_list_keeps}
 use Rattle.tso_core.proofs.laws.every_list_of_calls_keeps.Goals as goal
 
 pub returns : goal.returns

@@ -1,5 +1,5 @@
 use Rattle.tso_core.proofs.Granted.{ledger, bounded, grants}
-use Rattle.tso_core.proofs.Grown.{takes_grant}
+use Rattle.tso_core.proofs.Telling.{takes_grant}
 use Rattle.tso_core.proofs.laws.every_sound_state_tells.Goals as goal
 
 pub returns : goal.returns
