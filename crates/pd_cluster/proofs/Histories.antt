@@ -1,6 +1,6 @@
 -- The answers to any lawful script are a safe history.
 use Rattle.std.proofs.Common.{cond, ltb, nat_eq, ◌⊎◌, inl, inr, ⊎_elim, ◌<◌, ◌≤◌, ◌≡◌, ℕ, zero, suc, ◌^◌, List, [], ◌∷◌, ◌++◌, Bool, true, false, length, map, refl, sym, ap, ◌∙◌, subst, arith, append_assoc}
-use Rattle.std.specs.Prelude.{All, AllPairs, Contains, Option, Some, slice_index_or}
+use Rattle.std.specs.Prelude.{All, AllPairs, Contains, Option, None, Some, option_to_list, slice_index_or}
 use Rattle.std.specs.List.{AllByRecursion}
 use Rattle.std.proofs.lemmas.Bool.Decides.{nat_tests}
 use Rattle.std.proofs.lemmas.List.Elements.{All-from_recursion, All-nil, recursion_from_All}
@@ -15,13 +15,14 @@ use Rattle.tso_model.specs.Ledger.{Climb, place}
 use Rattle.tso_model.specs.Sound.{IsSetup}
 use Rattle.tso_model.specs.Words.{Inside, passes}
 use Rattle.tso_model.specs.OneHistory.{IsAbove}
-use Rattle.tso_core.specs.Laws.{Adds, IsFair, IsUpTo, Tells, seen_at, seen_by}
+use Rattle.tso_core.specs.Laws.{Adds, IsFair, IsUpTo, Tells, seen_at, seen_by, with_batch}
+use Rattle.tso_core.specs.Says.{says}
 use Rattle.tso_core.specs.Sound.{IsSound, HasDriver, HasClient}
 use Rattle.tso_core.specs.Asked.{IsCount}
 use Rattle.tso_core.specs.Steps.{Stepped}
 use Rattle.tso_core.specs.Whole.{Whole}
 use Rattle.tso_core.specs.declared.reply.Reply.{Reply}
-use Rattle.tso_core.specs.declared.reply.Reply.TheVariants.{Won, Beaten, Lost, TermsSpent, ClockRange, Moved, Idle, NotLeading, Resigned, Got, Again, NotLeader, Stale, Told, Heard, Nothing, OutOfTurn, CellRead, Claimed, Saved, Raised, Probed, Published, Looked, Armed}
+use Rattle.tso_core.specs.declared.reply.Reply.TheVariants.{Got, Again, Nothing, CellRead}
 use Rattle.tso_core.specs.declared.reply.Kind.TheVariants.{Read as ToRead, Campaign as ToCampaign, Save as ToSave, Raise as ToRaise, Publish as ToPublish, Probe as ToProbe, Look as ToLook, Arm as ToArm, Draw as ToDraw}
 use Rattle.pd_types.specs.declared.oracle.Actor.{Actor}
 use Rattle.pd_types.specs.declared.oracle.Actor.TheVariants.{Driver, Client}
@@ -39,7 +40,7 @@ use Rattle.pd_script.specs.declared.script.Mode.{Mode}
 use Rattle.pd_script.specs.declared.script.Script.{Script}
 use Rattle.pd_cluster.specs.Answers.{Answer, answer_text, answers_text, client_in, driver_in, named_cell, opening_cell, oracle_reply}
 use Rattle.tso_model.specs.OneHistory.{AreApart, LiesInOne}
-use Rattle.pd_cluster.specs.History.{HasPassed, IsFairAfter, and_batch, batches_of, caller, opening_window, reply, windows_from, windows_of}
+use Rattle.pd_cluster.specs.History.{HasPassed, IsFairAfter, batches_of, caller, opening_window, reply, windows_from, windows_of}
 use Rattle.pd_cluster.specs.Outcome.{IsSafeRun, StaysBounded}
 use Rattle.pd_cluster.specs.Replay.{State, act_step, answers_from, answers_of, line_step, setup_of, start, state_after}
 
@@ -63,7 +64,7 @@ silent w s d c = record {
   setup = refl;
   windows = refl;
   batches = refl;
-  fair = λ seen is. tt;
+  fair = λ seen is. record { above = tt; passed = tt };
   own = λ has. refl;
   risen = λ has. up_to_itself (seen_at w c);
   shown = λ has. All-nil (λ (seen : Seen). IsUpTo seen (seen_at w c));
@@ -77,7 +78,7 @@ opens w s saved term = record {
   setup = refl;
   windows = refl;
   batches = refl;
-  fair = λ seen is. tt;
+  fair = λ seen is. record { above = tt; passed = tt };
   own = λ has. refl;
   risen = λ has. up_to_itself (seen_at w 0);
   shown = λ has. All-nil (λ (seen : Seen). IsUpTo seen (seen_at w 0));
@@ -103,41 +104,6 @@ act_tells w s (Look client driver) asked = (each_call_tells w s).step (Client cl
 act_tells w s (Arm client n) asked = (each_call_tells w s).step (Client client) (ToArm n) (has_client w.setup client asked.0) (is_count w.setup.drivers w.setup.clients n asked.1.0)
 act_tells w s (Draw client) asked = (each_call_tells w s).step (Client client) ToDraw (has_client w.setup client asked.0) tt
 act_tells w s (Ask driver request) asked = silent w s (driver_in (Some (asker driver request))) (client_in (Some (asker driver request)))
-
--- an answer grants a batch, or nothing
-record IsDull (r : Reply) : Type 0 where
-  front : (bs : List Batch) → and_batch r bs ≡ bs
-  same : (old new : List Batch) → Adds r old new → new ≡ old
-
-abbrev Granted : Reply → Type 0
-Granted r = (b : Batch) × (r ≡ Got b)
-
-grants_or : (r : Reply) → Granted r ⊎ IsDull r
-grants_or (Got b) = inl (b, refl)
-grants_or (Won a b c) = inr (record { front = λ bs. refl; same = λ old new h. h })
-grants_or (Beaten f) = inr (record { front = λ bs. refl; same = λ old new h. h })
-grants_or (Lost f) = inr (record { front = λ bs. refl; same = λ old new h. h })
-grants_or TermsSpent = inr (record { front = λ bs. refl; same = λ old new h. h })
-grants_or ClockRange = inr (record { front = λ bs. refl; same = λ old new h. h })
-grants_or (Moved n h) = inr (record { front = λ bs. refl; same = λ old new h. h })
-grants_or Idle = inr (record { front = λ bs. refl; same = λ old new h. h })
-grants_or NotLeading = inr (record { front = λ bs. refl; same = λ old new h. h })
-grants_or Resigned = inr (record { front = λ bs. refl; same = λ old new h. h })
-grants_or (Again a h n) = inr (record { front = λ bs. refl; same = λ old new h. h })
-grants_or NotLeader = inr (record { front = λ bs. refl; same = λ old new h. h })
-grants_or (Stale t) = inr (record { front = λ bs. refl; same = λ old new h. h })
-grants_or Told = inr (record { front = λ bs. refl; same = λ old new h. h })
-grants_or (Heard x) = inr (record { front = λ bs. refl; same = λ old new h. h })
-grants_or Nothing = inr (record { front = λ bs. refl; same = λ old new h. h })
-grants_or (OutOfTurn e) = inr (record { front = λ bs. refl; same = λ old new h. h })
-grants_or (CellRead x) = inr (record { front = λ bs. refl; same = λ old new h. h })
-grants_or (Claimed t) = inr (record { front = λ bs. refl; same = λ old new h. h })
-grants_or (Saved h) = inr (record { front = λ bs. refl; same = λ old new h. h })
-grants_or (Raised x) = inr (record { front = λ bs. refl; same = λ old new h. h })
-grants_or (Probed x) = inr (record { front = λ bs. refl; same = λ old new h. h })
-grants_or (Published h) = inr (record { front = λ bs. refl; same = λ old new h. h })
-grants_or (Looked t h) = inr (record { front = λ bs. refl; same = λ old new h. h })
-grants_or (Armed a) = inr (record { front = λ bs. refl; same = λ old new h. h })
 
 -- the element is in the list
 abbrev In : {A : Type 0} → A → List A → Type 0
@@ -243,9 +209,6 @@ nothing_apart i j d before within = absurd (omega (arith, within))
 prints_nothing : (bs : List Batch) → Prints bs bs []
 prints_nothing bs = record { kept = λ b is. is; among = tt; behind = λ b is. tt; apart = nothing_apart }
 
-prints_dull : (r : Reply) (old new final printed : List Batch) → IsDull r → Adds r old new → Prints new final printed → Prints old final (and_batch r printed)
-prints_dull r old new final printed dull adds p = subst (λ (bs : List Batch). Prints old final bs) (sym (dull.front printed)) (subst (λ (bs : List Batch). Prints bs final printed) (dull.same old new adds) p)
-
 prints_got : (u : Whole) → IsSound u → (old final printed : List Batch) (b : Batch) → u.batches ≡ place b old → Prints u.batches final printed → Prints old final (b ∷ printed)
 prints_got u s old final printed b is p = record {
   kept = λ x within. p.kept x (subst (In x) (sym is) (still_in x b old within));
@@ -254,10 +217,12 @@ prints_got u s old final printed b is p = record {
   apart = AllPairs-cons AreApart b printed (All-from_recursion _ _ (p.behind b (subst (In b) (sym is) (in_place b old)))) p.apart;
 }
 
-prints_one : (u : Whole) → IsSound u → (r : Reply) (old final printed : List Batch) → Adds r old u.batches → Prints u.batches final printed → Prints old final (and_batch r printed)
-prints_one u s r old final printed adds p = ⊎_elim
-    (λ got. subst (λ (x : Reply). Prints old final (and_batch x printed)) (sym got.1) (prints_got u s old final printed got.0 (subst (λ (x : Reply). Adds x old u.batches) got.1 adds) p))
-    (λ dull. prints_dull r old u.batches final printed dull adds p) (grants_or r)
+prints_batch : (u : Whole) → IsSound u → (o : Option Batch) (old final printed : List Batch) → u.batches ≡ with_batch o old → Prints u.batches final printed → Prints old final (option_to_list o ++ printed)
+prints_batch u s None old final printed same p = subst (λ (bs : List Batch). Prints bs final printed) same p
+prints_batch u s (Some b) old final printed placed p = prints_got u s old final printed b placed p
+
+prints_one : (u : Whole) → IsSound u → (r : Reply) (old final printed : List Batch) → Adds r old u.batches → Prints u.batches final printed → Prints old final (option_to_list (says r).batch ++ printed)
+prints_one u s r old final printed adds p = prints_batch u s (says r).batch old final printed adds p
 
 -- what a line answers of the oracle, and the oracle after it
 abbrev oracle_turn : State → Line → Stepped
@@ -290,8 +255,8 @@ exceeds_now : (w : Whole) (d c : ℕ) (r : Stepped) → Tells w d c r → (seen 
 exceeds_now w d c r tells seen upto batch is = by (has_or_not w.setup c)
   where
     by : HasClient w.setup c ⊎ (HasClient w.setup c → ⊥) → IsAbove seen batch
-    by (inl has) = above_more seen (seen_at w c) batch (upto has) (subst (λ (x : Reply). IsFair x (seen_at w c)) is (tells.fair (seen_at w c) (λ own. refl)))
-    by (inr none) = subst (λ (x : Reply). IsFair x seen) is (tells.fair seen (λ has. absurd (none has)))
+    by (inl has) = above_more seen (seen_at w c) batch (upto has) (subst (λ (x : Reply). IsFair x (seen_at w c)) is (tells.fair (seen_at w c) (λ own. refl))).above
+    by (inr none) = (subst (λ (x : Reply). IsFair x seen) is (tells.fair seen (λ has. absurd (none has)))).above
 
 up_to_more : (a b c : Seen) → IsUpTo a b → IsUpTo b c → IsUpTo a c
 up_to_more a b c one two = record { term = omega (arith, one.term, two.term); last = omega (arith, one.last, two.last) }
@@ -356,7 +321,7 @@ has_passed : (state : State) (line : Line) (d c : ℕ) → Tells state.oracle d 
 has_passed state line d c tells at hi n is = by (has_or_not state.oracle.setup c)
   where
     by : HasClient state.oracle.setup c ⊎ (HasClient state.oracle.setup c → ⊥) → passes at hi n ≡ true
-    by either = subst (λ (x : Reply). IsFair x (seen_at state.oracle c)) is (tells.fair (seen_at state.oracle c) (λ has. refl))
+    by either = (subst (λ (x : Reply). IsFair x (seen_at state.oracle c)) is (tells.fair (seen_at state.oracle c) (λ has. refl))).passed
 
 fair_one : (answer later : Answer) (c : ℕ) → caller answer ≡ c → AllByRecursion (λ seen. Exceeds c seen later) (seen_by (reply answer)) → IsFairAfter answer later
 fair_one answer later c is all same batch got = All-from_recursion (λ seen. IsAbove seen batch) (seen_by (reply answer))

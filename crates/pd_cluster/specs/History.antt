@@ -1,12 +1,13 @@
 -- What the printed answers keep, whatever the script is: no timestamp is granted twice. All of it is said of the lines of a script and
 -- of their answers alone, as they stand on the paper.
-use Rattle.std.specs.Prelude.{◌≡◌, ℕ, true, List, [], ◌∷◌, map, All, AllPairs}
+use Rattle.std.specs.Prelude.{◌≡◌, ℕ, true, List, [], ◌∷◌, ◌++◌, map, All, AllPairs, option_to_list}
 use Rattle.pd_types.specs.declared.oracle.Batch.{Batch}
 use Rattle.pd_types.specs.declared.oracle.CellWord.{CellWord}
 use Rattle.pd_types.specs.declared.oracle.Window.{Window}
 use Rattle.tso_model.specs.Words.{passes}
 use Rattle.tso_model.specs.OneHistory.{IsAbove, IsOneHistory}
 use Rattle.tso_core.specs.Laws.{seen_by, windows_told}
+use Rattle.tso_core.specs.Says.{says}
 use Rattle.tso_core.specs.declared.reply.Reply.{Reply}
 use Rattle.tso_core.specs.declared.reply.Reply.TheVariants.{Got, Again}
 use Rattle.pd_cluster.specs.Answers.{Answer, client_in, driver_in, opening_cell, oracle_reply}
@@ -19,15 +20,10 @@ reply answer = oracle_reply answer.said
 abbrev pub caller : Answer → ℕ
 caller answer = client_in answer.line.actor
 
--- the batch of an answer, in front of others
-abbrev pub and_batch : Reply → List Batch → List Batch
-and_batch (Got batch) batches = batch ∷ batches
-and_batch _ batches = batches
-
 -- the batches that were printed, in the order of their lines
 abbrev pub batches_of : List Answer → List Batch
 batches_of [] = []
-batches_of (answer ∷ answers) = and_batch (reply answer) (batches_of answers)
+batches_of (answer ∷ answers) = option_to_list (says (reply answer)).batch ++ batches_of answers
 
 -- the windows that answers tell, behind those before: `won` and `claimed` begin one, `saved` and `moved` make it longer
 abbrev pub windows_from : List Window → List Answer → List Window

@@ -1,10 +1,10 @@
 // The text of a run, section by section.
-ghost use Rattle.std.specs.Prelude.{◌≡◌, ◌↔◌, ◌++◌, ◌∷◌, [], IfOk, OnOk, codes, flat_map, string_bytes};
+ghost use Rattle.std.specs.Prelude.{◌≡◌, ◌↔◌, ◌++◌, ◌∷◌, [], IfOk, OnOk, codes, flat_map, option_to_list, string_bytes};
 ghost use Rattle.pd_cluster.specs.RunText.{client_reply, client_section, driver_reply, driver_section, fault_reply, lead_reply, post_line, post_lines, reply_line, run_text, tick_reply, windows_text};
-ghost use Rattle.pd_cluster.specs.History.{and_batch};
 ghost use Rattle.pd_cluster.specs.Terms.{EndsTerm};
 ghost use Rattle.pd_types.specs.declared.oracle.Seen.{Seen};
 ghost use Rattle.tso_core.specs.Laws.{learned};
+ghost use Rattle.tso_core.specs.Says.{says};
 ghost use Rattle.tso_model.specs.declared.view.Setup.{Setup};
 ghost use Rattle.tso_outcome.specs.Clients.{got, seen_after};
 ghost use Rattle.tso_outcome.specs.Terms.{GivesUp};
@@ -73,7 +73,7 @@ fn fault_reply(fault: DrawFault) -> Reply
 // What a client's answer prints. It tells the batch that was granted, and what the client has seen then.
 fn client_reply(said: ClientSaid) -> Reply
     ensures value { result ≡ client_reply said }
-    ensures batch { and_batch result [] ≡ got said }
+    ensures batch { option_to_list (says result).batch ≡ got said }
     ensures seen { (seen : Seen) → seen_after said seen ≡ learned result seen }
 {
     match said {

@@ -1,5 +1,11 @@
 use Rattle.pd_cluster.proofs.replay.step.Goals as goal
 
+pub returns-in-Lead-clause-reply : goal.returns-in-Lead-clause-reply
+returns-in-Lead-clause-reply c = rw (c.in-Lead.is) (c.lead.ensures.reply)
+
+pub returns-in-Lead-clause-after : goal.returns-in-Lead-clause-after
+returns-in-Lead-clause-after c = rw (c.in-Lead.is) (c.lead.ensures.after)
+
 pub returns-in-Tick-clause-reply : goal.returns-in-Tick-clause-reply
 returns-in-Tick-clause-reply c = rw (c.in-Tick.is) (c.tick.ensures.reply)
 
