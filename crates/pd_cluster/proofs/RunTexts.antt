@@ -13,9 +13,13 @@ use Rattle.tso_run.specs.declared.runner.Left.{Left}
 use Rattle.tso_run.specs.Runs.{client_part, driver_part, run_of}
 use Rattle.pd_cluster.specs.RunText.{client_section, driver_section, post_line, post_lines, run_text, windows_text}
 
-append-nil : {B : Type 0} (xs : List B) → xs ++ [] ≡ xs
+pub append-nil : {B : Type 0} (xs : List B) → xs ++ [] ≡ xs
 append-nil [] = refl
 append-nil (x ∷ xs) = λ i. x ∷ append-nil xs i
+
+-- the section of one answer, with nothing behind it
+pub one_answer : (word number line : List ℕ) → word ++ number ++ codes "\n" ++ (line ++ []) ++ [] ≡ word ++ number ++ codes "\n" ++ line
+one_answer word number line = λ i. append-nil (word ++ number ++ codes "\n" ++ append-nil line i) i
 
 -- one entry of the post more
 post_last : (n : ℕ) (entries : List PostEntry) (entry : PostEntry) → post_lines n (entries ++ entry ∷ []) ≡ post_lines n entries ++ post_line (n + length entries) entry

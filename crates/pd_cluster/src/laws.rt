@@ -1,5 +1,5 @@
 // What the definitions of an outcome give, by themselves.
-ghost use Rattle.std.specs.Prelude.{◌≡◌, ◌<◌, ◌^◌, [], ◌∷◌, ℕ, codes, map, Some, None};
+ghost use Rattle.std.specs.Prelude.{◌≡◌, ◌<◌, ◌^◌, [], ◌∷◌, ◌++◌, ℕ, codes, map, Some, None, Ok};
 ghost use Rattle.std.specs.Fmt.{decimal};
 ghost use Rattle.pd_types.specs.declared.oracle.Actor.TheVariants.{Driver, Client};
 ghost use Rattle.pd_script.specs.declared.act.Act.TheVariants as acts;
@@ -7,11 +7,16 @@ ghost use Rattle.pd_cluster.specs.Answers.{Answer};
 ghost use Rattle.pd_cluster.specs.Command.{command_of};
 ghost use Rattle.pd_cluster.specs.Number.{status_number};
 ghost use Rattle.pd_cluster.specs.Replay.{answers_of};
+ghost use Rattle.pd_cluster.specs.RunText.{post_line, reply_line, run_text, window_line};
 ghost use Rattle.pd_cluster.specs.declared.command.Command.TheVariants.{Replay, Run, Tso};
 ghost use Rattle.pd_cluster.specs.declared.said.Said.TheVariants.{ByOracle};
 ghost use Rattle.pd_cluster.specs.declared.status.Status.TheVariants.{Done, Usage, Refused, ReadFault, WriteFault, NoMemory, Limit};
 ghost use Rattle.tso_core.specs.declared.reply.Due.TheVariants as dues;
 ghost use Rattle.tso_core.specs.declared.reply.Reply.TheVariants as replies;
+ghost use Rattle.tso_client.specs.declared.entry.PostWhat.TheVariants as posted;
+ghost use Rattle.tso_driver.specs.declared.reply.LeadReply.TheVariants as leads;
+ghost use Rattle.tso_driver.specs.declared.said.DriverSaid.TheVariants.{Led};
+ghost use Rattle.tso_outcome.specs.declared.said.ClientSaid.TheVariants.{Took};
 
 /// The exit status of each end.
 pub fn the_exit_statuses()
@@ -104,4 +109,38 @@ pub fn single_steps_are_answered()
         ∷ ByOracle (replies.Looked 2 4000)
         ∷ ByOracle (replies.Armed 262144000)
         ∷ ByOracle (replies.Got (record { term = 2; driver = 1; last = 262144100; count = 100 })) ∷ [] }
+{}
+
+/// The text of a run by two drivers and a client: the windows that were saved, the answers of each
+/// driver that has some behind its head, then each client's, then the post's journal behind its head.
+pub fn the_sections_of_a_run()
+    ensures sections { run_text (record {
+      setup = record { drivers = 2; clients = 1; cell = record { saved = 0; term = 0 } };
+      drivers =
+          record { number = 1; answers = record { line = 1; said = Led 1000 (leads.Won 1 1000 4000) } ∷ [] }
+          ∷ record { number = 2; answers = [] } ∷ [];
+      clients = record { number = 1; answers = record { line = 2; said = Took 1 3 (Ok (record { term = 1; driver = 1; last = 262144003; count = 3 })) } ∷ [] } ∷ [];
+      post = record { client = 1; line = 3; what = posted.Told 1 (record { term = 1; last = 262144003 }) }
+          ∷ record { client = 1; line = 4; what = posted.Heard (record { term = 1; last = 262144003 }) } ∷ [];
+      windows = record { term = 0; driver = 0; lo = 0; hi = 0 } ∷ record { term = 1; driver = 1; lo = 1000; hi = 4000 } ∷ [];
+      batches = record { term = 1; driver = 1; last = 262144003; count = 3 } ∷ [];
+    })
+        ≡ window_line (record { term = 1; driver = 1; lo = 1000; hi = 4000 })
+        ++ (codes "driver " ++ decimal 1 ++ codes "\n" ++ reply_line 1 (replies.Won 1 1000 4000))
+        ++ (codes "client " ++ decimal 1 ++ codes "\n" ++ reply_line 2 (replies.Got (record { term = 1; driver = 1; last = 262144003; count = 3 })))
+        ++ codes "post\n"
+        ++ (post_line 1 (record { client = 1; line = 3; what = posted.Told 1 (record { term = 1; last = 262144003 }) })
+        ++ post_line 2 (record { client = 1; line = 4; what = posted.Heard (record { term = 1; last = 262144003 }) })) }
+{}
+
+/// The lines of a run's text: a window, and an entry of the post by its number in the journal.
+pub fn the_lines_of_a_run()
+    ensures window { window_line (record { term = 1; driver = 2; lo = 1000; hi = 4000 })
+        ≡ codes "window " ++ decimal 1 ++ codes " " ++ decimal 2 ++ codes " " ++ decimal 1000 ++ codes " " ++ decimal 4000 ++ codes "\n" }
+    ensures told { post_line 1 (record { client = 7; line = 3; what = posted.Told 2 (record { term = 5; last = 9 }) })
+        ≡ decimal 1 ++ codes " line " ++ decimal 3 ++ codes " told\n" }
+    ensures heard { post_line 2 (record { client = 7; line = 4; what = posted.Heard (record { term = 5; last = 9 }) })
+        ≡ decimal 2 ++ codes " line " ++ decimal 4 ++ codes " heard " ++ decimal 5 ++ codes " " ++ decimal 9 ++ codes "\n" }
+    ensures nothing { post_line 3 (record { client = 7; line = 6; what = posted.Nothing })
+        ≡ decimal 3 ++ codes " line " ++ decimal 6 ++ codes " nothing\n" }
 {}
