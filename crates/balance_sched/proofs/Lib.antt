@@ -1,0 +1,6 @@
+pub mod OrderLemmas
+pub mod MoveLemmas
+pub mod SearchLemmas
+pub mod PlaceLemmas
+pub mod LawLemmas
+pub mod CountLemmas

@@ -1,0 +1,9 @@
+use Rattle.balance_sched.specs.Search.{Follows, LoseTo}
+use Rattle.balance_sched.specs.Tables.{tables_of}
+use Rattle.balance_sched.proofs.search.best_from.Given as goal
+
+abbrev pub invariant-loop-place : goal.invariant-loop-place
+invariant-loop-place l = record {
+  follows : Follows l.of.on.view.kind (tables_of l.of.on.view.stores.now l.of.on.view.standing.now l.of.on.view.rules.now l.of.on.view.busy.now l.of.on.view.now) l.of.beat.now l.fn.best l.found;
+  lose : LoseTo l.of.on.view.kind (tables_of l.of.on.view.stores.now l.of.on.view.standing.now l.of.on.view.rules.now l.of.on.view.busy.now l.of.on.view.now) l.of.beat.now l.from l.place l.found;
+}

@@ -1,0 +1,4 @@
+pub mod Tables
+pub mod Moves
+pub mod Moved
+pub mod Search
