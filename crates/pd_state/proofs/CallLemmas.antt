@@ -69,7 +69,7 @@ pub no_calls : (answers : List MetaAnswer) → AreAsked (λ before. None) [] ans
 no_calls [] asked = refl
 no_calls (a ∷ answers) asked = absurd (let h = asked.0 in cc)
 
-unless_few : (o : Option Reply) (call : MetaCall) → length (unless o (call ∷ [])) ≤ 1
+pub unless_few : (o : Option Reply) (call : MetaCall) → length (unless o (call ∷ [])) ≤ 1
 unless_few None call = omega arith
 unless_few (Some reply) call = omega arith
 
@@ -86,42 +86,49 @@ told_few : (part : Part) (told : Result Rule RuleFault) → length (told_calls p
 told_few part (Err fault) = omega arith
 told_few part (Ok rule) = omega (arith, one_more (default_put part rule) (rule_put part rule ∷ []))
 
-rule_few : (part : Part) (told : Result Rule RuleFault) → length (rule_calls part told) ≤ 2
+pub rule_few : (part : Part) (told : Result Rule RuleFault) → length (rule_calls part told) ≤ 2
 rule_few part told =
     let less = unless_less (rule_refusal told part.rules) (told_calls part told) in
     let two = told_few part told in
     omega (arith, less, two)
 
-unrule_few : (part : Part) (group id : List ℕ) → length (unrule_calls part group id) ≤ 1
+pub unrule_few : (part : Part) (group id : List ℕ) → length (unrule_calls part group id) ≤ 1
 unrule_few part group id =
     let less = unless_less (removal_refused (remove_refusal group id part.rules)) (cons_option (rule_delete part group id) []) in
     let one = one_more (rule_delete part group id) [] in
     omega (arith, less, one)
 
--- a request makes two calls at most
-pub two_calls : (part : Option Part) (request : Request) (answers : List MetaAnswer) → AreAsked (next_call part request) [] answers → length answers ≤ 2
-two_calls part (ask.Term term moment) answers asked = omega (arith, few_calls (calls.Lead term ∷ []) answers (asked_calls (calls.Lead term ∷ []) answers asked))
-two_calls (Some part) (ask.Hello store moment address labels) answers asked =
+-- a request that makes two calls at most: each but those that add operators
+abbrev pub AsksFew : Request → Type 0
+AsksFew (ask.Check moment region) = ⊥
+AsksFew (ask.Patrol moment workers) = ⊥
+AsksFew _ = Unit {0}
+
+pub two_calls : (part : Option Part) (request : Request) (answers : List MetaAnswer) → AsksFew request → AreAsked (next_call part request) [] answers → length answers ≤ 2
+two_calls part (ask.Term term moment) answers few_asked asked = omega (arith, few_calls (calls.Lead term ∷ []) answers (asked_calls (calls.Lead term ∷ []) answers asked))
+two_calls (Some part) (ask.Hello store moment address labels) answers few_asked asked =
     let few = few_calls (hello_calls part store address labels) answers (asked_calls (hello_calls part store address labels) answers asked) in
     let one = unless_few (hello_refusal (state_at store part.stores) (length part.stores)) (put_call part (store_key store) (store_bytes (greeted_record part store address labels))) in
     omega (arith, few, one)
-two_calls None (ask.Hello store moment address labels) answers asked = omega (arith, ap length (no_calls answers asked))
-two_calls None (ask.Alive store moment) answers asked = omega (arith, ap length (no_calls answers asked))
-two_calls (Some part) (ask.Alive store moment) answers asked = omega (arith, ap length (no_calls answers asked))
-two_calls None (ask.Beat store moment beat) answers asked = omega (arith, ap length (no_calls answers asked))
-two_calls (Some part) (ask.Beat store moment beat) answers asked = omega (arith, ap length (no_calls answers asked))
-two_calls None (ask.Rule moment json) answers asked = omega (arith, ap length (no_calls answers asked))
-two_calls None (ask.Unrule moment group id) answers asked = omega (arith, ap length (no_calls answers asked))
-two_calls (Some part) (ask.Rule moment json) answers asked =
+two_calls None (ask.Hello store moment address labels) answers few_asked asked = omega (arith, ap length (no_calls answers asked))
+two_calls None (ask.Alive store moment) answers few_asked asked = omega (arith, ap length (no_calls answers asked))
+two_calls (Some part) (ask.Alive store moment) answers few_asked asked = omega (arith, ap length (no_calls answers asked))
+two_calls None (ask.Beat store moment beat) answers few_asked asked = omega (arith, ap length (no_calls answers asked))
+two_calls (Some part) (ask.Beat store moment beat) answers few_asked asked = omega (arith, ap length (no_calls answers asked))
+two_calls None (ask.Rule moment json) answers few_asked asked = omega (arith, ap length (no_calls answers asked))
+two_calls None (ask.Unrule moment group id) answers few_asked asked = omega (arith, ap length (no_calls answers asked))
+two_calls (Some part) (ask.Rule moment json) answers few_asked asked =
     let few = few_calls (rule_calls part (rule_told json)) answers (asked_calls (rule_calls part (rule_told json)) answers asked) in
     let two = rule_few part (rule_told json) in
     omega (arith, few, two)
-two_calls (Some part) (ask.Unrule moment group id) answers asked =
+two_calls (Some part) (ask.Unrule moment group id) answers few_asked asked =
     let few = few_calls (unrule_calls part group id) answers (asked_calls (unrule_calls part group id) answers asked) in
     let one = unrule_few part group id in
     omega (arith, few, one)
-two_calls None ask.Retire answers asked = omega (arith, ap length (no_calls answers asked))
-two_calls (Some part) ask.Retire answers asked = omega (arith, ap length (no_calls answers asked))
+two_calls part (ask.Check moment region) answers few_asked asked = absurd few_asked
+two_calls part (ask.Patrol moment workers) answers few_asked asked = absurd few_asked
+two_calls None ask.Retire answers few_asked asked = omega (arith, ap length (no_calls answers asked))
+two_calls (Some part) ask.Retire answers few_asked asked = omega (arith, ap length (no_calls answers asked))
 
 -- the calls of each request
 pub term_calls : (part : Option Part) (term moment : ℕ) (answers : List MetaAnswer) → AreAsked (next_call part (ask.Term term moment)) [] answers → AreCalls (calls.Lead term ∷ []) answers

@@ -9,9 +9,12 @@ use Rattle.pd_types.specs.declared.request.Request.{Request}
 use Rattle.pd_types.specs.declared.request.Request.TheVariants as ask
 use Rattle.pd_types.specs.declared.store.Label.{Label}
 use Rattle.pd_types.specs.declared.store.StoreRec.{StoreRec}
-use Rattle.pd_types.specs.declared.store.StoreState.TheVariants.{Up}
+use Rattle.pd_types.specs.declared.store.StoreState.{StoreState}
+use Rattle.pd_types.specs.declared.store.StoreState.TheVariants.{Up, Offline, Tombstone}
+use Rattle.store_table.specs.Calls.{in_state}
+use Rattle.meta_store.specs.declared.record.MetaAnswer.{MetaAnswer}
 use Rattle.store_table.specs.declared.entry.StoreEntry.{StoreEntry}
-use Rattle.store_table.specs.Entries.{AreRising, entry_at, placed}
+use Rattle.store_table.specs.Entries.{AreRising, entry_at, placed, state_at}
 use Rattle.store_table.proofs.MapLemmas.{entry_placed, entry_others}
 use Rattle.pd_state.specs.declared.entry.Entry.{Entry}
 use Rattle.pd_state.specs.declared.reply.Reply.{Reply}
@@ -23,7 +26,9 @@ use Rattle.pd_state.specs.HandedOut.{record_at, store_in, store_more, stores_tol
 use Rattle.pd_state.specs.Heard.{handed_out, heard_of}
 use Rattle.pd_state.specs.Since.{begun, since, since_by}
 use Rattle.pd_state.specs.State.{greeted_by, greeting, kept_state, records_by, records_of, store_of, part_of}
-use Rattle.pd_state.specs.Known.{begun_with, handed_to, state_or_up, where_put, greets, is_hello, LastHello, WasHanded, AreKnown}
+use Rattle.pd_state.specs.Checking.{deed_of, patrol_of}
+use Rattle.pd_state.specs.Known.{begun_with, buried_state, entombs, handed_to, has_tombstone, is_entombed, is_tombstone, state_or_up, where_put, greets, is_hello, LastHello, WasHanded, AreKnown}
+use Rattle.pd_state.proofs.Buried.{AreBuried, deed_buried, id_is}
 use Rattle.pd_state.proofs.Rows.{entry_map, placed_map}
 
 -- a record is found once it is placed, and those of other ids as before
@@ -90,11 +95,15 @@ part_one e (ask.Alive store moment) None entries is rest h = absurd cc
 part_one e (ask.Beat store moment beat) None entries is rest h = absurd cc
 part_one e (ask.Rule moment json) None entries is rest h = absurd cc
 part_one e (ask.Unrule moment group id) None entries is rest h = absurd cc
+part_one e (ask.Check moment region) None entries is rest h = absurd cc
+part_one e (ask.Patrol moment workers) None entries is rest h = absurd cc
 part_one e (ask.Hello store moment address labels) (Some fs) entries is rest h = subst TermPart (cons_same e fs entries h) (subst (λ (r : Request). part_by r fs (TermPart fs)) (sym is) (rest fs refl))
 part_one e (ask.Alive store moment) (Some fs) entries is rest h = subst TermPart (cons_same e fs entries h) (subst (λ (r : Request). part_by r fs (TermPart fs)) (sym is) (rest fs refl))
 part_one e (ask.Beat store moment beat) (Some fs) entries is rest h = subst TermPart (cons_same e fs entries h) (subst (λ (r : Request). part_by r fs (TermPart fs)) (sym is) (rest fs refl))
 part_one e (ask.Rule moment json) (Some fs) entries is rest h = subst TermPart (cons_same e fs entries h) (subst (λ (r : Request). part_by r fs (TermPart fs)) (sym is) (rest fs refl))
 part_one e (ask.Unrule moment group id) (Some fs) entries is rest h = subst TermPart (cons_same e fs entries h) (subst (λ (r : Request). part_by r fs (TermPart fs)) (sym is) (rest fs refl))
+part_one e (ask.Check moment region) (Some fs) entries is rest h = subst TermPart (cons_same e fs entries h) (subst (λ (r : Request). part_by r fs (TermPart fs)) (sym is) (rest fs refl))
+part_one e (ask.Patrol moment workers) (Some fs) entries is rest h = subst TermPart (cons_same e fs entries h) (subst (λ (r : Request). part_by r fs (TermPart fs)) (sym is) (rest fs refl))
 
 pub term_part : (past entries : List Entry) → since past ≡ Some entries → TermPart entries
 term_part [] entries h = absurd cc
@@ -107,7 +116,7 @@ or_twice false b c = refl
 
 abbrev Knows : Request → Entry → List Entry → ℕ → Type 0
 Knows r e entries store =
-    is_some (record_at store (records_by r e.reply (heard_of e) (records_of entries))) ≡ (greets store r e.reply || list_any (is_hello store) entries) || is_some (record_at store (stores_told (begun_with r (handed_out e.answers) (handed_to entries))))
+    is_some (record_at store (records_by r e.reply (heard_of e) (part_of entries) (records_of entries))) ≡ (greets store r e.reply || list_any (is_hello store) entries) || is_some (record_at store (stores_told (begun_with r (handed_out e.answers) (handed_to entries))))
 
 hello_knows : (p : Reply) (at moment : ℕ) (address : List ℕ) (labels : List Label) (recs : List StoreRec) (store : ℕ) (b : Bool) → is_some (record_at store recs) ≡ b
     → is_some (record_at store (greeted_by p (greeting at address labels) recs)) ≡ where_put p (nat_eq at store) || b
@@ -117,6 +126,23 @@ hello_knows replies.StorePut at moment address labels recs store b h = by (nat_e
     by true is = ap is_some (hello_own (greeting at address labels) recs store (same_id at store is))
     by false is = ap is_some (hello_other (greeting at address labels) recs store (other_id at store is)) ∙ h
 hello_knows p at moment address labels recs store b h = h
+
+-- a patrol leaves which stores are known
+known_rows : (es : List Entry) (store : ℕ) (recs : List StoreRec) (stores : List StoreEntry) → AreBuried (map (store_of es) recs) stores → is_some (record_at store (map (λ (entry : StoreEntry). entry.store) stores)) ≡ is_some (record_at store recs)
+known_rows es store [] [] h = refl
+known_rows es store [] (entry ∷ stores) h = absurd h
+known_rows es store (rec ∷ recs) [] h = absurd h
+known_rows es store (rec ∷ recs) (entry ∷ stores) h =
+    ap (λ (n : ℕ). is_some (cond (nat_eq n store) (Some entry.store) (record_at store (map (λ (e : StoreEntry). e.store) stores)))) (id_is es rec entry h.0)
+    ∙ by (nat_eq rec.id store) (known_rows es store recs stores h.1)
+  where
+    by : (t : Bool) → is_some (record_at store (map (λ (e : StoreEntry). e.store) stores)) ≡ is_some (record_at store recs) → is_some (cond t (Some entry.store) (record_at store (map (λ (e : StoreEntry). e.store) stores))) ≡ is_some (cond t (Some rec) (record_at store recs))
+    by true rest = refl
+    by false rest = rest
+
+known_patrol : (entries : List Entry) (moment store : ℕ) (answers : List MetaAnswer)
+    → is_some (record_at store (map (λ (entry : StoreEntry). entry.store) (deed_of (patrol_of (part_of entries) moment) (part_of entries) moment answers).stores)) ≡ is_some (record_at store (records_of entries))
+known_patrol entries moment store answers = known_rows entries store (records_of entries) _ (deed_buried entries moment answers)
 
 known_one : (r : Request) (e : Entry) (entries : List Entry) (store : ℕ) → part_by r entries (TermPart entries)
     → (TermPart entries → is_some (record_at store (records_of entries)) ≡ list_any (is_hello store) entries || is_some (record_at store (stores_told (handed_to entries)))) → Knows r e entries store
@@ -128,6 +154,8 @@ known_one (ask.Alive at moment) e entries store part rest = rest part
 known_one (ask.Beat at moment beat) e entries store part rest = rest part
 known_one (ask.Rule moment json) e entries store part rest = rest part
 known_one (ask.Unrule moment group id) e entries store part rest = rest part
+known_one (ask.Check moment region) e entries store part rest = rest part
+known_one (ask.Patrol moment workers) e entries store part rest = known_patrol entries moment store e.answers ∙ rest part
 
 known_all : (entries : List Entry) → TermPart entries → (store : ℕ) → is_some (record_at store (records_of entries)) ≡ list_any (is_hello store) entries || is_some (record_at store (stores_told (handed_to entries)))
 known_all [] part store = absurd part
@@ -161,7 +189,10 @@ told_before : (e : Entry) (entries : List Entry) (store : ℕ) (rec : StoreRec) 
 told_before e entries store rec other same (inl l) = inl (later_one e entries store rec.address rec.labels other l)
 told_before e entries store rec other same (inr w) = inr (record {
   unheard = ap (λ (t : Bool). t || list_any (is_hello store) entries) other ∙ w.unheard;
+  known = w.known;
   handed = ap (λ (cells : List Cell). record_at store (stores_told cells)) same ∙ w.handed;
+  address = w.address;
+  labels = w.labels;
 })
 
 own_hello : (e : Entry) (entries : List Entry) (at moment : ℕ) (address : List ℕ) (labels : List Label) (store : ℕ) (rec : StoreRec) → e.request ≡ ask.Hello at moment address labels → e.reply ≡ replies.StorePut → at ≡ store
@@ -200,11 +231,36 @@ told_hello e entries at moment address labels replies.StorePut asked put told st
 told_hello e entries at moment address labels p asked put told store rec found =
     told_before e entries store rec (ap (λ (r : Request). greets store r e.reply) asked ∙ ap (λ (q : Reply). where_put q (nat_eq at store)) put) (ap (λ (r : Request). begun_with r (handed_out e.answers) (handed_to entries)) asked) (told store rec found)
 
+-- a record that a patrol leaves, and the one before it: at most the state differs
+record_before : (es : List Entry) (store : ℕ) (recs : List StoreRec) (stores : List StoreEntry) (rec : StoreRec) → AreBuried (map (store_of es) recs) stores → record_at store (map (λ (entry : StoreEntry). entry.store) stores) ≡ Some rec
+    → (was : StoreRec) × (record_at store recs ≡ Some was) × (rec.address ≡ was.address) × (rec.labels ≡ was.labels) × ((rec ≡ was) ⊎ (rec.state ≡ Tombstone))
+record_before es store [] [] rec h found = absurd cc
+record_before es store [] (entry ∷ stores) rec h found = absurd h
+record_before es store (one ∷ recs) [] rec h found = absurd h
+record_before es store (one ∷ recs) (entry ∷ stores) rec h found = by (nat_eq one.id store) refl (ap (λ (n : ℕ). cond (nat_eq n store) (Some entry.store) (record_at store (map (λ (e : StoreEntry). e.store) stores))) (sym (id_is es one entry h.0)) ∙ found) (record_before es store recs stores rec h.1)
+  where
+    own : (entry ≡ store_of es one) ⊎ (entry ≡ in_state Tombstone (store_of es one)) → entry.store ≡ rec → (rec.address ≡ one.address) × (rec.labels ≡ one.labels) × ((rec ≡ one) ⊎ (rec.state ≡ Tombstone))
+    own (inl is) at = (ap (λ (r : StoreRec). r.address) (sym at) ∙ ap (λ (e : StoreEntry). e.store.address) is, ap (λ (r : StoreRec). r.labels) (sym at) ∙ ap (λ (e : StoreEntry). e.store.labels) is, inl (sym at ∙ ap (λ (e : StoreEntry). e.store) is))
+    own (inr is) at = (ap (λ (r : StoreRec). r.address) (sym at) ∙ ap (λ (e : StoreEntry). e.store.address) is, ap (λ (r : StoreRec). r.labels) (sym at) ∙ ap (λ (e : StoreEntry). e.store.labels) is, inr (ap (λ (r : StoreRec). r.state) (sym at) ∙ ap (λ (e : StoreEntry). e.store.state) is))
+
+    by : (t : Bool) → nat_eq one.id store ≡ t → cond t (Some entry.store) (record_at store (map (λ (e : StoreEntry). e.store) stores)) ≡ Some rec
+        → (record_at store (map (λ (e : StoreEntry). e.store) stores) ≡ Some rec → (was : StoreRec) × (record_at store recs ≡ Some was) × (rec.address ≡ was.address) × (rec.labels ≡ was.labels) × ((rec ≡ was) ⊎ (rec.state ≡ Tombstone)))
+        → (was : StoreRec) × (cond (nat_eq one.id store) (Some one) (record_at store recs) ≡ Some was) × (rec.address ≡ was.address) × (rec.labels ≡ was.labels) × ((rec ≡ was) ⊎ (rec.state ≡ Tombstone))
+    by true is at rest = let o = own h.0 (some_same entry.store rec at) in (one, ap (λ (t : Bool). cond t (Some one) (record_at store recs)) is, o.0, o.1, o.2)
+    by false is at rest = let r = rest at in (r.0, ap (λ (t : Bool). cond t (Some one) (record_at store recs)) is ∙ r.1, r.2, r.3, r.4)
+
+told_again : (entries : List Entry) (store : ℕ) (was rec : StoreRec) → rec.address ≡ was.address → rec.labels ≡ was.labels → ToldOne entries store was → ToldOne entries store rec
+told_again entries store was rec address labels (inl l) = inl (subst (λ (a : List ℕ). LastHello entries store a rec.labels) (sym address) (subst (λ (l : List Label). LastHello entries store was.address l) (sym labels) l))
+told_again entries store was rec address labels (inr w) = inr (record { unheard = w.unheard; known = w.known; handed = w.handed; address = address ∙ w.address; labels = labels ∙ w.labels })
+
 told_one : (r : Request) (e : Entry) (entries : List Entry) → e.request ≡ r → part_by r entries (TermPart entries) → (TermPart entries → ToldAll entries) → (store : ℕ) (rec : StoreRec)
-    → record_at store (records_by r e.reply (heard_of e) (records_of entries)) ≡ Some rec → ToldOne (e ∷ entries) store rec
+    → record_at store (records_by r e.reply (heard_of e) (part_of entries) (records_of entries)) ≡ Some rec → ToldOne (e ∷ entries) store rec
 told_one (ask.Term term moment) e entries asked part rest store rec found = inr (record {
   unheard = ap (λ (r : Request). greets store r e.reply || list_any (is_hello store) entries) asked ∙ ap (λ (es : List Entry). list_any (is_hello store) es) part;
+  known = rec;
   handed = ap (λ (r : Request). record_at store (stores_told (begun_with r (handed_out e.answers) (handed_to entries)))) asked ∙ found;
+  address = refl;
+  labels = refl;
 })
 told_one (ask.Hello at moment address labels) e entries asked part rest store rec found = told_hello e entries at moment address labels e.reply asked refl (rest part) store rec found
 told_one ask.Retire e entries asked part rest store rec found =
@@ -217,6 +273,12 @@ told_one (ask.Rule moment json) e entries asked part rest store rec found =
     told_before e entries store rec (ap (λ (r : Request). greets store r e.reply) asked) (ap (λ (r : Request). begun_with r (handed_out e.answers) (handed_to entries)) asked) (rest part store rec found)
 told_one (ask.Unrule moment group id) e entries asked part rest store rec found =
     told_before e entries store rec (ap (λ (r : Request). greets store r e.reply) asked) (ap (λ (r : Request). begun_with r (handed_out e.answers) (handed_to entries)) asked) (rest part store rec found)
+told_one (ask.Check moment region) e entries asked part rest store rec found =
+    told_before e entries store rec (ap (λ (r : Request). greets store r e.reply) asked) (ap (λ (r : Request). begun_with r (handed_out e.answers) (handed_to entries)) asked) (rest part store rec found)
+told_one (ask.Patrol moment workers) e entries asked part rest store rec found =
+    let was = record_before entries store (records_of entries) _ rec (deed_buried entries moment e.answers) found in
+    told_again (e ∷ entries) store was.0 rec was.2 was.3
+    (told_before e entries store was.0 (ap (λ (r : Request). greets store r e.reply) asked) (ap (λ (r : Request). begun_with r (handed_out e.answers) (handed_to entries)) asked) (rest part store was.0 was.1))
 
 told_all : (entries : List Entry) → TermPart entries → ToldAll entries
 told_all [] part = absurd part
@@ -229,34 +291,111 @@ or_none false None h = refl
 or_none false (Some rec) h = absurd cc
 
 abbrev InState : List Entry → List Cell → Type 0
-InState entries cells = (store : ℕ) (rec : StoreRec) → record_at store (records_of entries) ≡ Some rec → rec.state ≡ state_or_up (record_at store (stores_told cells))
+InState entries cells = (store : ℕ) (rec : StoreRec) → record_at store (records_of entries) ≡ Some rec → rec.state ≡ buried_state (is_entombed store entries) (state_or_up (record_at store (stores_told cells)))
 
-state_own : (o before : Option StoreRec) (rec : StoreRec) → rec.state ≡ Up → (is_some o ≡ false → before ≡ None) → ((known : StoreRec) → o ≡ Some known → known.state ≡ state_or_up before) → (kept_state o rec).state ≡ state_or_up before
-state_own None before rec up none known = up ∙ ap state_or_up (sym (none refl))
-state_own (Some rec) before new up none known = known rec refl
+state_own : (o before : Option StoreRec) (rec : StoreRec) (t : Bool) → rec.state ≡ Up → (is_some o ≡ false → before ≡ None) → (is_some o ≡ false → t ≡ false) → ((known : StoreRec) → o ≡ Some known → known.state ≡ buried_state t (state_or_up before))
+    → (kept_state o rec).state ≡ buried_state t (state_or_up before)
+state_own None before rec t up none new known = up ∙ ap state_or_up (sym (none refl)) ∙ ap (λ (b : Bool). buried_state b (state_or_up before)) (sym (new refl))
+state_own (Some rec) before one t up none new known = known rec refl
+
+-- a store that was entombed is known
+abbrev Entombed : List Entry → Type 0
+Entombed entries = (store : ℕ) → is_some (record_at store (records_of entries)) ≡ false → is_entombed store entries ≡ false
+
+hello_none : (p : Reply) (at moment : ℕ) (address : List ℕ) (labels : List Label) (recs : List StoreRec) (store : ℕ) → is_some (record_at store (greeted_by p (greeting at address labels) recs)) ≡ false → is_some (record_at store recs) ≡ false
+hello_none replies.StorePut at moment address labels recs store none = by (nat_eq at store) refl
+  where
+    by : (t : Bool) → nat_eq at store ≡ t → is_some (record_at store recs) ≡ false
+    by true is = absurd (let both : true ≡ false = sym (ap is_some (hello_own (greeting at address labels) recs store (same_id at store is))) ∙ none in cc)
+    by false is = sym (ap is_some (hello_other (greeting at address labels) recs store (other_id at store is))) ∙ none
+hello_none p at moment address labels recs store none = none
+
+no_tomb : (stores : List StoreEntry) (store : ℕ) → is_some (record_at store (map (λ (entry : StoreEntry). entry.store) stores)) ≡ false → has_tombstone (state_at store stores) ≡ false
+no_tomb [] store none = refl
+no_tomb (entry ∷ stores) store none = by (nat_eq entry.store.id store) none (no_tomb stores store)
+  where
+    by : (t : Bool) → is_some (cond t (Some entry.store) (record_at store (map (λ (e : StoreEntry). e.store) stores))) ≡ false
+        → (is_some (record_at store (map (λ (e : StoreEntry). e.store) stores)) ≡ false → has_tombstone (state_at store stores) ≡ false)
+        → has_tombstone (option_map (λ (e : StoreEntry). e.store.state) (cond t (Some entry) (entry_at store stores))) ≡ false
+    by true h rest = absurd cc
+    by false h rest = rest h
+
+either_false : (a b : Bool) → a ≡ false → b ≡ false → a || b ≡ false
+either_false true b h k = absurd cc
+either_false false b h k = k
+
+entombed_one : (r : Request) (e : Entry) (entries : List Entry) → part_by r entries (TermPart entries) → (TermPart entries → Entombed entries) → (store : ℕ)
+    → is_some (record_at store (records_by r e.reply (heard_of e) (part_of entries) (records_of entries))) ≡ false → entombs store r (heard_of e) (part_of entries) || is_entombed store entries ≡ false
+entombed_one (ask.Term term moment) e entries part rest store none = ap (λ (es : List Entry). is_entombed store es) part
+entombed_one (ask.Hello at moment address labels) e entries part rest store none = rest part store (hello_none e.reply at moment address labels (records_of entries) store none)
+entombed_one ask.Retire e entries part rest store none = rest part store none
+entombed_one (ask.Alive at moment) e entries part rest store none = rest part store none
+entombed_one (ask.Beat at moment beat) e entries part rest store none = rest part store none
+entombed_one (ask.Rule moment json) e entries part rest store none = rest part store none
+entombed_one (ask.Unrule moment group id) e entries part rest store none = rest part store none
+entombed_one (ask.Check moment region) e entries part rest store none = rest part store none
+entombed_one (ask.Patrol moment workers) e entries part rest store none =
+    either_false _ (is_entombed store entries) (no_tomb (deed_of (patrol_of (part_of entries) moment) (part_of entries) moment e.answers).stores store none) (rest part store (sym (known_patrol entries moment store e.answers) ∙ none))
+
+entombed_all : (entries : List Entry) → TermPart entries → Entombed entries
+entombed_all [] part = absurd part
+entombed_all (e ∷ entries) part = entombed_one e.request e entries part (λ p. entombed_all entries p)
 
 state_hello : (entries : List Entry) (at moment : ℕ) (address : List ℕ) (labels : List Label) (p : Reply) → TermPart entries → InState entries (handed_to entries) → (store : ℕ) (rec : StoreRec)
-    → record_at store (greeted_by p (greeting at address labels) (records_of entries)) ≡ Some rec → rec.state ≡ state_or_up (record_at store (stores_told (handed_to entries)))
+    → record_at store (greeted_by p (greeting at address labels) (records_of entries)) ≡ Some rec → rec.state ≡ buried_state (is_entombed store entries) (state_or_up (record_at store (stores_told (handed_to entries))))
 state_hello entries at moment address labels replies.StorePut part before store rec found = by (nat_eq at store) refl
   where
-    by : (t : Bool) → nat_eq at store ≡ t → rec.state ≡ state_or_up (record_at store (stores_told (handed_to entries)))
+    by : (t : Bool) → nat_eq at store ≡ t → rec.state ≡ buried_state (is_entombed store entries) (state_or_up (record_at store (stores_told (handed_to entries))))
     by true is =
         let id : at ≡ store = same_id at store is in
         let rec_is : kept_state (record_at at (records_of entries)) (greeting at address labels) ≡ rec = some_same _ rec (sym (hello_own (greeting at address labels) (records_of entries) store id) ∙ found) in
-        let own = state_own (record_at at (records_of entries)) (record_at at (stores_told (handed_to entries))) (greeting at address labels) refl (λ none. or_none (list_any (is_hello at) entries) _ (sym none ∙ known_all entries part at)) (before at) in
-        sym (ap (λ (x : StoreRec). x.state) rec_is) ∙ own ∙ ap (λ n. state_or_up (record_at n (stores_told (handed_to entries)))) id
+        let own = state_own (record_at at (records_of entries)) (record_at at (stores_told (handed_to entries))) (greeting at address labels) (is_entombed at entries) refl (λ none. or_none (list_any (is_hello at) entries) _ (sym none ∙ known_all entries part at))
+        (entombed_all entries part at) (before at) in
+        sym (ap (λ (x : StoreRec). x.state) rec_is) ∙ own ∙ ap (λ n. buried_state (is_entombed n entries) (state_or_up (record_at n (stores_told (handed_to entries))))) id
     by false is = before store rec (sym (hello_other (greeting at address labels) (records_of entries) store (other_id at store is)) ∙ found)
 state_hello entries at moment address labels p part before store rec found = before store rec found
 
+state_found : (stores : List StoreEntry) (store : ℕ) (rec : StoreRec) → record_at store (map (λ (entry : StoreEntry). entry.store) stores) ≡ Some rec → state_at store stores ≡ Some rec.state
+state_found [] store rec found = absurd cc
+state_found (entry ∷ stores) store rec found = by (nat_eq entry.store.id store) found (state_found stores store rec)
+  where
+    by : (t : Bool) → cond t (Some entry.store) (record_at store (map (λ (e : StoreEntry). e.store) stores)) ≡ Some rec → (record_at store (map (λ (e : StoreEntry). e.store) stores) ≡ Some rec → state_at store stores ≡ Some rec.state)
+        → option_map (λ (e : StoreEntry). e.store.state) (cond t (Some entry) (entry_at store stores)) ≡ Some rec.state
+    by true h rest = ap (λ (r : StoreRec). Some r.state) (some_same entry.store rec h)
+    by false h rest = rest h
+
+buried_or : (state : StoreState) (t : Bool) (before : StoreState) → (state ≡ Tombstone) ⊎ (state ≡ buried_state t before) → state ≡ buried_state (is_tombstone state || t) before
+buried_or Tombstone t before h = refl
+buried_or Up t before (inl is) = absurd cc
+buried_or Up t before (inr is) = is
+buried_or Offline t before (inl is) = absurd cc
+buried_or Offline t before (inr is) = is
+
+state_patrol : (entries : List Entry) (moment : ℕ) (answers : List MetaAnswer) → InState entries (handed_to entries) → (store : ℕ) (rec : StoreRec)
+    → record_at store (map (λ (entry : StoreEntry). entry.store) (deed_of (patrol_of (part_of entries) moment) (part_of entries) moment answers).stores) ≡ Some rec
+    → rec.state ≡ buried_state (has_tombstone (state_at store (deed_of (patrol_of (part_of entries) moment) (part_of entries) moment answers).stores) || is_entombed store entries) (state_or_up (record_at store (stores_told (handed_to entries))))
+state_patrol entries moment answers before store rec found =
+    let was = record_before entries store (records_of entries) _ rec (deed_buried entries moment answers) found in
+    let old = before store was.0 was.1 in
+    let at : has_tombstone (state_at store (deed_of (patrol_of (part_of entries) moment) (part_of entries) moment answers).stores) ≡ is_tombstone rec.state = ap has_tombstone (state_found _ store rec found) in
+    let one : (rec.state ≡ Tombstone) ⊎ (rec.state ≡ buried_state (is_entombed store entries) (state_or_up (record_at store (stores_told (handed_to entries))))) =
+    elim was.4 [ inl same ↦ inr (ap (λ (r : StoreRec). r.state) same ∙ old) | inr tomb ↦ inl tomb ] in
+    buried_or rec.state (is_entombed store entries) (state_or_up (record_at store (stores_told (handed_to entries)))) one
+    ∙ ap (λ (b : Bool). buried_state (b || is_entombed store entries) (state_or_up (record_at store (stores_told (handed_to entries))))) (sym at)
+
 state_one : (r : Request) (e : Entry) (entries : List Entry) → part_by r entries (TermPart entries) → (TermPart entries → InState entries (handed_to entries)) → (store : ℕ) (rec : StoreRec)
-    → record_at store (records_by r e.reply (heard_of e) (records_of entries)) ≡ Some rec → rec.state ≡ state_or_up (record_at store (stores_told (begun_with r (handed_out e.answers) (handed_to entries))))
-state_one (ask.Term term moment) e entries part rest store rec found = ap state_or_up (sym found)
+    → record_at store (records_by r e.reply (heard_of e) (part_of entries) (records_of entries)) ≡ Some rec
+    → rec.state ≡ buried_state (entombs store r (heard_of e) (part_of entries) || is_entombed store entries) (state_or_up (record_at store (stores_told (begun_with r (handed_out e.answers) (handed_to entries)))))
+state_one (ask.Term term moment) e entries part rest store rec found =
+    ap state_or_up (sym found) ∙ ap (λ (es : List Entry). buried_state (is_entombed store es) (state_or_up (record_at store (stores_told (handed_out e.answers))))) (sym part)
 state_one (ask.Hello at moment address labels) e entries part rest store rec found = state_hello entries at moment address labels e.reply part (rest part) store rec found
 state_one ask.Retire e entries part rest store rec found = rest part store rec found
 state_one (ask.Alive at moment) e entries part rest store rec found = rest part store rec found
 state_one (ask.Beat at moment beat) e entries part rest store rec found = rest part store rec found
 state_one (ask.Rule moment json) e entries part rest store rec found = rest part store rec found
 state_one (ask.Unrule moment group id) e entries part rest store rec found = rest part store rec found
+state_one (ask.Check moment region) e entries part rest store rec found = rest part store rec found
+state_one (ask.Patrol moment workers) e entries part rest store rec found = state_patrol entries moment e.answers (rest part) store rec found
 
 state_all : (entries : List Entry) → TermPart entries → InState entries (handed_to entries)
 state_all [] part = absurd part
@@ -302,15 +441,42 @@ rise_told : (cells : List Cell) (recs : List StoreRec) → Rise recs → Rise (f
 rise_told [] recs rise = rise
 rise_told (cell ∷ cells) recs rise = rise_told cells (store_more (store_in cell) recs) (rise_more (store_in cell) recs rise)
 
-rise_one : (r : Request) (p : Reply) (known : Heard) (recs : List StoreRec) → Rise recs → Rise (records_by r p known recs)
-rise_one (ask.Term term moment) p known recs rise = rise_told (handed_out known.answers) [] (λ i j d less low. absurd (omega arith))
-rise_one (ask.Hello at moment address labels) replies.StorePut known recs rise = rise_with (kept_state (record_at at recs) (greeting at address labels)) recs rise
-rise_one (ask.Hello at moment address labels) p known recs rise = rise
-rise_one r p known recs rise = rise
+rise_ids : (es : List Entry) (recs : List StoreRec) (stores : List StoreEntry) → AreBuried (map (store_of es) recs) stores → map (λ (r : StoreRec). r.id) (map (λ (entry : StoreEntry). entry.store) stores) ≡ map (λ (r : StoreRec). r.id) recs
+rise_ids es [] [] h = refl
+rise_ids es [] (entry ∷ stores) h = absurd h
+rise_ids es (rec ∷ recs) [] h = absurd h
+rise_ids es (rec ∷ recs) (entry ∷ stores) h = λ i. id_is es rec entry h.0 i ∷ rise_ids es recs stores h.1 i
+
+id_at : (recs : List StoreRec) (i : ℕ) (d : StoreRec) (n : ℕ) → i < length recs → get_or (map (λ (r : StoreRec). r.id) recs) i n ≡ (get_or recs i d).id
+id_at [] i d n low = absurd (omega arith)
+id_at (rec ∷ recs) zero d n low = refl
+id_at (rec ∷ recs) (suc i) d n low = id_at recs i d n (omega arith)
+
+count_ids : (recs : List StoreRec) → length (map (λ (r : StoreRec). r.id) recs) ≡ length recs
+count_ids [] = refl
+count_ids (rec ∷ recs) = let rest = count_ids recs in omega (arith, rest)
+
+rise_by : (recs others : List StoreRec) → map (λ (r : StoreRec). r.id) recs ≡ map (λ (r : StoreRec). r.id) others → Rise others → Rise recs
+rise_by recs others same rise = λ i j d less low.
+    let count : length recs ≡ length others = sym (count_ids recs) ∙ ap length same ∙ count_ids others in
+    let high : j < length others = omega (arith, count, low) in
+    let one : (get_or recs i d).id ≡ (get_or others i d).id = sym (id_at recs i d 0 (omega (arith, less, low))) ∙ ap (λ (l : List ℕ). get_or l i 0) same ∙ id_at others i d 0 (omega (arith, less, high)) in
+    let two : (get_or recs j d).id ≡ (get_or others j d).id = sym (id_at recs j d 0 low) ∙ ap (λ (l : List ℕ). get_or l j 0) same ∙ id_at others j d 0 high in
+    let pair = rise i j d less high in
+    omega (arith, one, two, pair)
+
+rise_one : (r : Request) (p : Reply) (known : Heard) (es : List Entry) (recs : List StoreRec) → recs ≡ records_of es → Rise recs → Rise (records_by r p known (part_of es) recs)
+rise_one (ask.Term term moment) p known es recs is rise = rise_told (handed_out known.answers) [] (λ i j d less low. absurd (omega arith))
+rise_one (ask.Hello at moment address labels) replies.StorePut known es recs is rise = rise_with (kept_state (record_at at recs) (greeting at address labels)) recs rise
+rise_one (ask.Hello at moment address labels) p known es recs is rise = rise
+rise_one (ask.Patrol moment workers) p known es recs is rise =
+    rise_by (map (λ (entry : StoreEntry). entry.store) (deed_of (patrol_of (part_of es) moment) (part_of es) moment known.answers).stores) recs
+    (rise_ids es (records_of es) _ (deed_buried es moment known.answers) ∙ ap (map (λ (r : StoreRec). r.id)) (sym is)) rise
+rise_one r p known es recs is rise = rise
 
 rise_all : (entries : List Entry) → Rise (records_of entries)
 rise_all [] = λ i j d less low. absurd (omega arith)
-rise_all (e ∷ entries) = rise_one e.request e.reply (heard_of e) (records_of entries) (rise_all entries)
+rise_all (e ∷ entries) = rise_one e.request e.reply (heard_of e) entries (records_of entries) refl (rise_all entries)
 
 mapped : (f : StoreRec → StoreEntry) (recs : List StoreRec) (k : ℕ) (d : StoreEntry) → k < length (map f recs) → (r : StoreRec) × ((e : StoreRec) → get_or recs k e ≡ r) × (get_or (map f recs) k d ≡ f r)
 mapped f [] k d low = absurd (omega arith)
@@ -347,6 +513,6 @@ are_known entries part = record {
       subst (λ (e : StoreEntry). ToldOne entries store e.store) same (told_all entries part store rec at);
   state = λ store found is.
       let (rec, at, same) = some_mapped (record_at store (records_of entries)) (store_of entries) found (sym (entry_map (store_of entries) (λ r. refl) store (records_of entries)) ∙ is) in
-      subst (λ (e : StoreEntry). e.store.state ≡ state_or_up (record_at store (stores_told (handed_to entries)))) same (state_all entries part store rec at);
+      subst (λ (e : StoreEntry). e.store.state ≡ buried_state (is_entombed store entries) (state_or_up (record_at store (stores_told (handed_to entries))))) same (state_all entries part store rec at);
   rising = rising_of (store_of entries) (λ r. refl) (records_of entries) (rise_all entries);
 }

@@ -2,14 +2,18 @@
 use Rattle.std.proofs.Common.{refl, ◌≡◌, ◌≢◌, ℕ, suc, ◌≤◌, List, [], ◌∷◌, map, max, Option, subst, ap, sym, ◌∙◌, Some, None, arith, ◌⊎◌, inl, inr}
 use Rattle.std.proofs.lemmas.List.Elements.{All-cons}
 use Rattle.std.specs.List.{All, Any}
+use Rattle.std.specs.FinMap.{get-empty}
 use Rattle.std.specs.Option.{option_map}
+use Rattle.std.specs.Ordering.{nat_cmp}
 use Rattle.std.specs.Prelude.{IfSome}
 use Rattle.std.proofs.lemmas.List.Elements.{All-map}
 use Rattle.pd_types.specs.declared.oracle.Actor.{Actor}
+use Rattle.pd_types.specs.declared.step.StepMsg.{StepMsg}
 use Rattle.pd_types.specs.declared.request.Request.{Request}
 use Rattle.pd_types.specs.declared.request.Request.TheVariants as ask
 use Rattle.pd_types.specs.declared.store.StoreRec.{StoreRec}
 use Rattle.store_table.specs.declared.entry.StoreEntry.{StoreEntry}
+use Rattle.op_control.specs.declared.operator.Operator.{Operator}
 use Rattle.meta_store.specs.declared.record.MetaAnswer.{MetaAnswer}
 use Rattle.pd_state.specs.declared.entry.Entry.{Entry}
 use Rattle.pd_state.specs.declared.heard.Heard.{Heard}
@@ -23,8 +27,8 @@ use Rattle.pd_state.specs.declared.reply.Reply.TheVariants as replies
 use Rattle.pd_state.specs.Since.{begun, since, since_by}
 use Rattle.pd_state.specs.State.{moment_of, clock_of, part_of, part_after}
 
-abbrev entry_of : Actor → ℕ → Request → Heard → Reply → Entry
-entry_of actor line request heard reply = record { actor = actor; line = line; request = request; answers = heard.answers; reply = reply }
+abbrev entry_of : Actor → List StepMsg → ℕ → Request → Heard → Reply → Entry
+entry_of actor sends line request heard reply = record { actor = actor; line = line; request = request; answers = heard.answers; sends = sends; reply = reply }
 
 pub clock_most : (entries : List Entry) → All (λ (entry : Entry). moment_of entry.request ≤ clock_of entries) entries
 clock_most [] = λ k d low. absurd (omega arith)
@@ -51,8 +55,8 @@ begun_stores : (moment : ℕ) (recs : List StoreRec) → map (λ (entry : StoreE
 begun_stores moment [] = refl
 begun_stores moment (rec ∷ recs) = ap (λ (l : List StoreRec). rec ∷ l) (begun_stores moment recs)
 
-begun_anew : (actor : Actor) (line term moment : ℕ) (known : Heard) (reply : Reply) → BeginsAnew (part_of (entry_of actor line (ask.Term term moment) known reply ∷ [])) term moment (handed_out known.answers)
-begun_anew actor line term moment known reply = record {
+begun_anew : (actor : Actor) (sends : List StepMsg) (line term moment : ℕ) (known : Heard) (reply : Reply) → BeginsAnew (part_of (entry_of actor sends line (ask.Term term moment) known reply ∷ [])) term moment (handed_out known.answers)
+begun_anew actor sends line term moment known reply = record {
   term_is = refl;
   began_is = refl;
   clock_is = omega arith;
@@ -60,6 +64,10 @@ begun_anew actor line term moment known reply = record {
   silent = All-map (λ (entry : StoreEntry). entry.beat ≡ None) (loaded_at moment) (stores_told (handed_out known.answers)) (λ k d low. refl);
   regions = refl;
   rules = refl;
+  idle = λ region. ap (option_map (λ (op : Operator). op.state)) (get-empty nat_cmp region);
+  free = refl;
+  limits = refl;
+  window = refl;
 }
 
 abbrev Begun : Option Part → ℕ → ℕ → List MetaAnswer → Type 0
@@ -68,9 +76,9 @@ Begun part term moment answers = IfSome part (λ (p : Part). BeginsAnew p term m
 pub term_begins : (past : List Entry) (entry : Entry) (term moment number stores rules : ℕ) → entry.request ≡ ask.Term term moment → entry.reply ≡ replies.Term number stores rules → Begun (part_after (entry ∷ past)) term moment entry.answers
 term_begins past entry term moment number stores rules asked is =
     let at : since_by entry.request entry (since past) ≡ Some (entry ∷ []) = ap (λ (r : Request). since_by r entry (since past)) asked ∙ ap (λ (p : Reply). begun p entry) is in
-    let whole : entry_of entry.actor entry.line (ask.Term term moment) (heard_of entry) entry.reply ≡ entry = ap (λ (r : Request). entry_of entry.actor entry.line r (heard_of entry) entry.reply) (sym asked) in
+    let whole : entry_of entry.actor entry.sends entry.line (ask.Term term moment) (heard_of entry) entry.reply ≡ entry = ap (λ (r : Request). entry_of entry.actor entry.sends entry.line r (heard_of entry) entry.reply) (sym asked) in
     subst (λ (s : Option (List Entry)). Begun (option_map part_of s) term moment entry.answers) (sym at)
-    (subst (λ (e : Entry). BeginsAnew (part_of (e ∷ [])) term moment (handed_out entry.answers)) whole (begun_anew entry.actor entry.line term moment (heard_of entry) entry.reply))
+    (subst (λ (e : Entry). BeginsAnew (part_of (e ∷ [])) term moment (handed_out entry.answers)) whole (begun_anew entry.actor entry.sends entry.line term moment (heard_of entry) entry.reply))
 
 pub term_begun : (past : List Entry) (entry : Entry) (term moment number stores rules : ℕ) → entry.request ≡ ask.Term term moment → entry.reply ≡ replies.Term number stores rules → part_after (entry ∷ past) ≢ None
 term_begun past entry term moment number stores rules asked is none =

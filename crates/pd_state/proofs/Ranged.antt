@@ -6,6 +6,7 @@ use Rattle.std.specs.Option.{option_map}
 use Rattle.pd_types.specs.BeatCheck.{first_fault}
 use Rattle.pd_types.specs.declared.beat.BeatFault.{BeatFault}
 use Rattle.pd_types.specs.declared.oracle.Actor.{Actor}
+use Rattle.pd_types.specs.declared.step.StepMsg.{StepMsg}
 use Rattle.pd_types.specs.declared.region.RegionBeat.{RegionBeat}
 use Rattle.pd_types.specs.declared.request.Request.{Request}
 use Rattle.pd_types.specs.declared.request.Request.TheVariants as ask
@@ -20,17 +21,18 @@ use Rattle.pd_state.specs.Since.{since_by, since}
 use Rattle.pd_state.specs.State.{accepted_by, beats_of, part_of}
 use Rattle.pd_state.specs.Heard.{heard_of}
 use Rattle.pd_state.specs.Replies.{beat_reply}
-use Rattle.pd_state.specs.Legal.{first_reply, IsLegal}
+use Rattle.op_control.specs.declared.turn.Dispatch.{Dispatch}
+use Rattle.pd_state.specs.Legal.{beat_dispatch, first_reply, IsLegal}
 use Rattle.pd_state.specs.declared.heard.Heard.{Heard}
 use Rattle.pd_state.proofs.Refines.{entry_of}
 
-checked_by : (o : Option BeatFault) (removed : ℕ) (beat : RegionBeat) (held : List RegionBeat) → replies.Accepted removed ≡ beat_reply (intake_by o beat held) → o ≡ None
-checked_by None removed beat held h = refl
-checked_by (Some fault) removed beat held h = absurd cc
+checked_by : (o : Option BeatFault) (removed : ℕ) (answer came : Dispatch) (beat : RegionBeat) (held : List RegionBeat) → replies.Accepted removed answer ≡ beat_reply (intake_by o beat held) came → o ≡ None
+checked_by None removed answer came beat held h = refl
+checked_by (Some fault) removed answer came beat held h = absurd cc
 
-ranged_beat : (bs : List RegionBeat) (beat : RegionBeat) (p : Reply) → p ≡ beat_reply (intake_of beat (table_of bs)) → All HasRange bs → All HasRange (accepted_by p beat bs)
-ranged_beat bs beat (replies.Accepted removed) is ranged = All-cons HasRange beat bs (checked_range beat (checked_by (first_fault beat) removed beat (table_of bs) is)) ranged
-ranged_beat bs beat p is ranged = ranged
+ranged_beat : (bs : List RegionBeat) (beat : RegionBeat) (came : Dispatch) (p : Reply) → p ≡ beat_reply (intake_of beat (table_of bs)) came → All HasRange bs → All HasRange (accepted_by p beat bs)
+ranged_beat bs beat came (replies.Accepted removed answer) is ranged = All-cons HasRange beat bs (checked_range beat (checked_by (first_fault beat) removed answer came beat (table_of bs) is)) ranged
+ranged_beat bs beat came p is ranged = ranged
 
 abbrev AreRanged : List Entry → Type 0
 AreRanged es = All HasRange (beats_of es)
@@ -38,26 +40,30 @@ AreRanged es = All HasRange (beats_of es)
 some_is : (es fs : List Entry) → Some es ≡ Some fs → AreRanged es → AreRanged fs
 some_is es fs h ranged = let e : es ≡ fs = cc in subst AreRanged e ranged
 
-ranged_more : (s : Option (List Entry)) (actor : Actor) (line : ℕ) (r : Request) (known : Heard) (p : Reply) → ((es : List Entry) → s ≡ Some es → AreRanged es)
-    → p ≡ first_reply (option_map part_of s) r known → (fs : List Entry) → since_by r (entry_of actor line r known p) s ≡ Some fs → AreRanged fs
-ranged_more s actor line (ask.Term term moment) known (replies.Term t n m) ranged is fs h = some_is _ fs h (All-nil HasRange)
-ranged_more s actor line (ask.Term term moment) known p ranged is fs h = absurd cc
-ranged_more s actor line ask.Retire known p ranged is fs h = absurd cc
-ranged_more None actor line (ask.Hello store moment address labels) known p ranged is fs h = absurd cc
-ranged_more None actor line (ask.Alive store moment) known p ranged is fs h = absurd cc
-ranged_more None actor line (ask.Beat store moment beat) known p ranged is fs h = absurd cc
-ranged_more (Some es) actor line (ask.Hello store moment address labels) known p ranged is fs h = some_is _ fs h (ranged es refl)
-ranged_more (Some es) actor line (ask.Alive store moment) known p ranged is fs h = some_is _ fs h (ranged es refl)
-ranged_more (Some es) actor line (ask.Beat store moment beat) known p ranged is fs h =
-    some_is (entry_of actor line (ask.Beat store moment beat) known p ∷ es) fs h (ranged_beat (beats_of es) beat p is (ranged es refl))
-ranged_more None actor line (ask.Rule moment json) known p ranged is fs h = absurd cc
-ranged_more None actor line (ask.Unrule moment group id) known p ranged is fs h = absurd cc
-ranged_more (Some es) actor line (ask.Rule moment json) known p ranged is fs h = some_is _ fs h (ranged es refl)
-ranged_more (Some es) actor line (ask.Unrule moment group id) known p ranged is fs h = some_is _ fs h (ranged es refl)
+ranged_more : (s : Option (List Entry)) (actor : Actor) (sends : List StepMsg) (line : ℕ) (r : Request) (known : Heard) (p : Reply) → ((es : List Entry) → s ≡ Some es → AreRanged es)
+    → p ≡ first_reply (option_map part_of s) r known → (fs : List Entry) → since_by r (entry_of actor sends line r known p) s ≡ Some fs → AreRanged fs
+ranged_more s actor sends line (ask.Term term moment) known (replies.Term t n m) ranged is fs h = some_is _ fs h (All-nil HasRange)
+ranged_more s actor sends line (ask.Term term moment) known p ranged is fs h = absurd cc
+ranged_more s actor sends line ask.Retire known p ranged is fs h = absurd cc
+ranged_more None actor sends line (ask.Hello store moment address labels) known p ranged is fs h = absurd cc
+ranged_more None actor sends line (ask.Alive store moment) known p ranged is fs h = absurd cc
+ranged_more None actor sends line (ask.Beat store moment beat) known p ranged is fs h = absurd cc
+ranged_more (Some es) actor sends line (ask.Hello store moment address labels) known p ranged is fs h = some_is _ fs h (ranged es refl)
+ranged_more (Some es) actor sends line (ask.Alive store moment) known p ranged is fs h = some_is _ fs h (ranged es refl)
+ranged_more (Some es) actor sends line (ask.Beat store moment beat) known p ranged is fs h =
+    some_is (entry_of actor sends line (ask.Beat store moment beat) known p ∷ es) fs h (ranged_beat (beats_of es) beat (beat_dispatch (part_of es) moment beat) p is (ranged es refl))
+ranged_more None actor sends line (ask.Rule moment json) known p ranged is fs h = absurd cc
+ranged_more None actor sends line (ask.Unrule moment group id) known p ranged is fs h = absurd cc
+ranged_more None actor sends line (ask.Check moment region) known p ranged is fs h = absurd cc
+ranged_more None actor sends line (ask.Patrol moment workers) known p ranged is fs h = absurd cc
+ranged_more (Some es) actor sends line (ask.Rule moment json) known p ranged is fs h = some_is _ fs h (ranged es refl)
+ranged_more (Some es) actor sends line (ask.Unrule moment group id) known p ranged is fs h = some_is _ fs h (ranged es refl)
+ranged_more (Some es) actor sends line (ask.Check moment region) known p ranged is fs h = some_is _ fs h (ranged es refl)
+ranged_more (Some es) actor sends line (ask.Patrol moment workers) known p ranged is fs h = some_is _ fs h (ranged es refl)
 
 ranged_after : (driver : ℕ) (past : List Entry) → IsLegal driver past → (es : List Entry) → since past ≡ Some es → AreRanged es
 ranged_after driver [] legal es h = absurd cc
-ranged_after driver (e ∷ past) legal es h = ranged_more (since past) e.actor e.line e.request (heard_of e) e.reply (ranged_after driver past legal.1) legal.0.reply_is es h
+ranged_after driver (e ∷ past) legal es h = ranged_more (since past) e.actor e.sends e.line e.request (heard_of e) e.reply (ranged_after driver past legal.1) legal.0.reply_is es h
 
 pub standing_is : (driver : ℕ) (past es : List Entry) → IsLegal driver past → since past ≡ Some es → IsTable (beats_of es) (part_of es).standing
 standing_is driver past es legal h = every_table (beats_of es) (ranged_after driver past legal es h)

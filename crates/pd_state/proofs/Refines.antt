@@ -1,9 +1,10 @@
 -- What one entry more makes of the state is what its step made of the tables.
-use Rattle.std.proofs.Common.{refl, ◌≡◌, ℕ, Bool, true, false, cond, nat_eq, List, [], ◌∷◌, ◌++◌, map, max, reverse, append_assoc, Option, Some, None, ap, sym, ◌∙◌, subst, arith}
+use Rattle.std.proofs.Common.{refl, ◌≡◌, ℕ, Bool, true, false, cond, nat_eq, ◌+◌, length, List, [], ◌∷◌, ◌++◌, map, max, reverse, append_assoc, Option, Some, None, ap, sym, ◌∙◌, subst, arith}
 use Rattle.std.proofs.lemmas.Bool.Decides.{nat_tests}
-use Rattle.std.proofs.lemmas.List.{reverse-append}
+use Rattle.std.proofs.lemmas.List.{length-reverse, reverse-append}
 use Rattle.std.specs.Option.{option_map}
 use Rattle.pd_types.specs.declared.oracle.Actor.{Actor}
+use Rattle.pd_types.specs.declared.step.StepMsg.{StepMsg}
 use Rattle.pd_types.specs.declared.region.RegionBeat.{RegionBeat}
 use Rattle.pd_types.specs.declared.request.Request.{Request}
 use Rattle.pd_types.specs.declared.request.Request.TheVariants as ask
@@ -26,22 +27,29 @@ use Rattle.pd_state.specs.declared.reply.Reply.TheVariants as replies
 use Rattle.meta_store.specs.declared.record.MetaAnswer.{MetaAnswer}
 use Rattle.meta_store.specs.Asked.{AreAsked}
 use Rattle.meta_store.specs.Known.{kept_of}
+use Rattle.store_limit.specs.Limits.{known as known_limits}
 use Rattle.pd_state.specs.declared.heard.Heard.{Heard}
+use Rattle.pd_state.specs.Adding.{Around, Planning, around_at, planning_of, replanned}
 use Rattle.pd_state.specs.Calls.{next_call}
+use Rattle.pd_state.specs.Checking.{deed_of, patrol_of}
+use Rattle.pd_state.proofs.Buried.{AreRows, patrol_rows, patrol_unknown}
+use Rattle.pd_state.proofs.Leaves.{refused_check, refused_patrol}
 use Rattle.pd_state.specs.HandedOut.{record_at}
 use Rattle.pd_state.specs.Heard.{answers_of, heard_of, known_after, known_more}
 use Rattle.pd_state.specs.Replies.{alive_reply}
 use Rattle.pd_state.specs.Since.{begun, since_by, since}
-use Rattle.pd_state.specs.State.{clock_of, term_of, began_of, accepted_by, beats_of, heard, heartbeat, greeting, kept_state, greeted_by, moment_of, records_of, removed_by, rules_of, set_by, store_of, part_of, part_after}
-use Rattle.pd_state.specs.Legal.{first_reply, IsLegalAfter, IsLegal}
+use Rattle.pd_state.specs.State.{clock_of, term_of, began_of, accepted_by, beats_of, heard, heartbeat, greeting, kept_state, greeted_by, moment_of, records_of, removed_by, rules_of, set_by, store_of, part_of, part_after, planned_beat, planned_by, planned_hello}
+use Rattle.pd_state.specs.Legal.{first_reply, IsLegalAfter, IsLegal, sents_by, term_in}
+use Rattle.pd_state.specs.Sends.{message}
+use Rattle.pd_state.specs.declared.sent.Sent.{Sent}
 use Rattle.pd_state.specs.Clusters.{is_refused, refused_by, refuses, with_clock}
 use Rattle.pd_state.specs.Steps.{begun_part, greeted, put_after, heard_after, beat_after, changed_part, new_part, stepped}
 use Rattle.pd_state.proofs.Refusals.{kept_greeted, kept_id}
 use Rattle.pd_state.proofs.Rows.{entry_map, placed_map, unknown_before, found_id}
 
 -- an entry, by its parts
-abbrev pub entry_of : Actor → ℕ → Request → Heard → Reply → Entry
-entry_of actor line request heard reply = record { actor = actor; line = line; request = request; answers = heard.answers; reply = reply }
+abbrev pub entry_of : Actor → List StepMsg → ℕ → Request → Heard → Reply → Entry
+entry_of actor sends line request heard reply = record { actor = actor; line = line; request = request; answers = heard.answers; sends = sends; reply = reply }
 
 -- a store that isn't known sent no heartbeat
 abbrev pub Silent : List Entry → Type 0
@@ -52,18 +60,18 @@ heard_own store moment before =
     let here : nat_eq store store ≡ true = grind (arith, nat_tests) in
     ap (λ (t : Bool). cond t (Some (later before moment)) before) here
 
-abbrev hello_of : Actor → ℕ → ℕ → ℕ → List ℕ → List Label → Heard → Reply → Entry
-hello_of actor line store moment address labels known p = entry_of actor line (ask.Hello store moment address labels) known p
+abbrev hello_of : Actor → List StepMsg → ℕ → ℕ → ℕ → List ℕ → List Label → Heard → Reply → Entry
+hello_of actor sends line store moment address labels known p = entry_of actor sends line (ask.Hello store moment address labels) known p
 
 -- the entry of a store that says hello
-hello_entry : (es : List Entry) (actor : Actor) (line store moment : ℕ) (address : List ℕ) (labels : List Label) (known : Heard) (o : Option StoreRec)
+hello_entry : (es : List Entry) (actor : Actor) (sends : List StepMsg) (line store moment : ℕ) (address : List ℕ) (labels : List Label) (known : Heard) (o : Option StoreRec)
     → (o ≡ None → heartbeat es store ≡ None) → ((r : StoreRec) → o ≡ Some r → r.id ≡ store)
     → greeted (option_map (store_of es) o) (greeting store address labels) (began_of es) moment
-    ≡ store_of (hello_of actor line store moment address labels known replies.StorePut ∷ es) (kept_state o (greeting store address labels))
-hello_entry es actor line store moment address labels known None silent id =
+    ≡ store_of (hello_of actor sends line store moment address labels known replies.StorePut ∷ es) (kept_state o (greeting store address labels))
+hello_entry es actor sends line store moment address labels known None silent id =
     let e : Some moment ≡ heard store store moment (heartbeat es store) = ap (λ (b : Option ℕ). Some (later b moment)) (sym (silent refl)) ∙ sym (heard_own store moment (heartbeat es store)) in
     ap (λ (b : Option ℕ). let x : StoreEntry = record { store = greeting store address labels; began = began_of es; beat = b } in x) e
-hello_entry es actor line store moment address labels known (Some r) silent id =
+hello_entry es actor sends line store moment address labels known (Some r) silent id =
     let e : Some (later (heartbeat es r.id) moment) ≡ heard store store moment (heartbeat es store) = ap (λ (n : ℕ). Some (later (heartbeat es n) moment)) (id r refl) ∙ sym (heard_own store moment (heartbeat es store)) in
     ap (λ (b : Option ℕ). let x : StoreEntry = record { store = record (greeting store address labels) { state = r.state }; began = began_of es; beat = b } in x) e
 
@@ -80,32 +88,32 @@ heard_row : (t : Bool) (rec : StoreRec) (began moment : ℕ) (before : Option �
 heard_row true rec began moment before = refl
 heard_row false rec began moment before = refl
 
-rows_hello : (es : List Entry) (actor : Actor) (line store moment : ℕ) (address : List ℕ) (labels : List Label) (known : Heard) (p : Reply) → Silent es
+rows_hello : (es : List Entry) (actor : Actor) (sends : List StepMsg) (line store moment : ℕ) (address : List ℕ) (labels : List Label) (known : Heard) (p : Reply) → Silent es
     → put_after p (greeted (entry_at store (map (store_of es) (records_of es))) (greeting store address labels) (began_of es) moment) (map (store_of es) (records_of es))
-    ≡ map (store_of (hello_of actor line store moment address labels known p ∷ es)) (greeted_by p (greeting store address labels) (records_of es))
-rows_hello es actor line store moment address labels known replies.StorePut silent =
+    ≡ map (store_of (hello_of actor sends line store moment address labels known p ∷ es)) (greeted_by p (greeting store address labels) (records_of es))
+rows_hello es actor sends line store moment address labels known replies.StorePut silent =
     let rec = kept_state (record_at store (records_of es)) (greeting store address labels) in
     let there = entry_map (store_of es) (λ r. refl) store (records_of es) in
     let is = ap (λ (o : Option StoreEntry). greeted o (greeting store address labels) (began_of es) moment) there
-    ∙ hello_entry es actor line store moment address labels known (record_at store (records_of es)) (silent store) (found_id store (records_of es)) in
+    ∙ hello_entry es actor sends line store moment address labels known (record_at store (records_of es)) (silent store) (found_id store (records_of es)) in
     let id = kept_id (record_at store (records_of es)) (greeting store address labels) in
-    placed_map (store_of es) (store_of (hello_of actor line store moment address labels known replies.StorePut ∷ es)) (λ r. refl)
+    placed_map (store_of es) (store_of (hello_of actor sends line store moment address labels known replies.StorePut ∷ es)) (λ r. refl)
     (kept_state (record_at store (records_of es)) (greeting store address labels)) _ (ap (λ (e : StoreEntry). e.store.id) is) is
     (λ r other. other_row (nat_eq r.id store) r (began_of es) moment (heartbeat es r.id) (subst (λ (n : ℕ). nat_eq r.id n ≡ false) id other)) (records_of es)
-rows_hello es actor line store moment address labels known p silent = refl
+rows_hello es actor sends line store moment address labels known p silent = refl
 
-alive_rows : (es : List Entry) (actor : Actor) (line store moment : ℕ) (known : Heard) (recs : List StoreRec)
-    → changed store (heard_entry moment) (map (store_of es) recs) ≡ map (store_of (entry_of actor line (ask.Alive store moment) known replies.Alive ∷ es)) recs
-alive_rows es actor line store moment known [] = refl
-alive_rows es actor line store moment known (r ∷ recs) = λ i. heard_row (nat_eq r.id store) r (began_of es) moment (heartbeat es r.id) i ∷ alive_rows es actor line store moment known recs i
+alive_rows : (es : List Entry) (actor : Actor) (sends : List StepMsg) (line store moment : ℕ) (known : Heard) (recs : List StoreRec)
+    → changed store (heard_entry moment) (map (store_of es) recs) ≡ map (store_of (entry_of actor sends line (ask.Alive store moment) known replies.Alive ∷ es)) recs
+alive_rows es actor sends line store moment known [] = refl
+alive_rows es actor sends line store moment known (r ∷ recs) = λ i. heard_row (nat_eq r.id store) r (began_of es) moment (heartbeat es r.id) i ∷ alive_rows es actor sends line store moment known recs i
 
-rows_alive : (es : List Entry) (actor : Actor) (line store moment : ℕ) (known : Heard) (p : Reply)
-    → heard_after p store moment (map (store_of es) (records_of es)) ≡ map (store_of (entry_of actor line (ask.Alive store moment) known p ∷ es)) (records_of es)
-rows_alive es actor line store moment known replies.Alive = alive_rows es actor line store moment known (records_of es)
-rows_alive es actor line store moment known p = refl
+rows_alive : (es : List Entry) (actor : Actor) (sends : List StepMsg) (line store moment : ℕ) (known : Heard) (p : Reply)
+    → heard_after p store moment (map (store_of es) (records_of es)) ≡ map (store_of (entry_of actor sends line (ask.Alive store moment) known p ∷ es)) (records_of es)
+rows_alive es actor sends line store moment known replies.Alive = alive_rows es actor sends line store moment known (records_of es)
+rows_alive es actor sends line store moment known p = refl
 
 regions_is : (bs : List RegionBeat) (beat : RegionBeat) (p : Reply) → beat_after p beat (table_of bs) ≡ table_of (accepted_by p beat bs)
-regions_is bs beat (replies.Accepted removed) = sym (stand_more beat bs)
+regions_is bs beat (replies.Accepted removed answer) = sym (stand_more beat bs)
 regions_is bs beat p = refl
 
 -- what is known after answers more
@@ -120,34 +128,40 @@ written o rec began moment entries is =
     ap (λ (n : ℕ). greeted (entry_at n entries) (kept_state (option_map (λ (e : StoreEntry). e.store) o) rec) began moment) (kept_id (option_map (λ (e : StoreEntry). e.store) o) rec)
     ∙ ap (λ (p : Option StoreEntry). greeted p (kept_state (option_map (λ (e : StoreEntry). e.store) o) rec) began moment) (sym is) ∙ kept_greeted o rec began moment
 
-after_hello : (es : List Entry) (actor : Actor) (line store moment : ℕ) (address : List ℕ) (labels : List Label) (known : Heard) (p : Reply) → Silent es
-    → changed_part (part_of es) (ask.Hello store moment address labels) p known ≡ part_of (hello_of actor line store moment address labels known p ∷ es)
-after_hello es actor line store moment address labels known p silent = λ i. record {
+after_hello : (es : List Entry) (actor : Actor) (sends : List StepMsg) (line store moment : ℕ) (address : List ℕ) (labels : List Label) (known : Heard) (p : Reply) → Silent es
+    → changed_part (part_of es) (ask.Hello store moment address labels) p known ≡ part_of (hello_of actor sends line store moment address labels known p ∷ es)
+after_hello es actor sends line store moment address labels known p silent = λ i. record {
   term = term_of es;
   began = began_of es;
   clock = max (clock_of es) moment;
   standing = table_of (beats_of es);
   stores = (ap (λ (e : StoreEntry). put_after p e (map (store_of es) (records_of es))) (written (entry_at store (map (store_of es) (records_of es))) (greeting store address labels) (began_of es) moment (map (store_of es) (records_of es)) refl)
-      ∙ rows_hello es actor line store moment address labels known p silent) i;
+      ∙ rows_hello es actor sends line store moment address labels known p silent) i;
   rules = rules_of es;
   known = known_is known.answers (answers_of es) i;
+  operators = (planned_by (ask.Hello store moment address labels) p known (part_of es)).operators;
+  limits = (planned_by (ask.Hello store moment address labels) p known (part_of es)).limits;
+  window = (planned_by (ask.Hello store moment address labels) p known (part_of es)).window;
 }
 
-after_alive : (es : List Entry) (actor : Actor) (line store moment : ℕ) (known : Heard) (p : Reply)
-    → changed_part (part_of es) (ask.Alive store moment) p known ≡ part_of (entry_of actor line (ask.Alive store moment) known p ∷ es)
-after_alive es actor line store moment known p = λ i. record {
+after_alive : (es : List Entry) (actor : Actor) (sends : List StepMsg) (line store moment : ℕ) (known : Heard) (p : Reply)
+    → changed_part (part_of es) (ask.Alive store moment) p known ≡ part_of (entry_of actor sends line (ask.Alive store moment) known p ∷ es)
+after_alive es actor sends line store moment known p = λ i. record {
   term = term_of es;
   began = began_of es;
   clock = max (clock_of es) moment;
   standing = table_of (beats_of es);
-  stores = rows_alive es actor line store moment known p i;
+  stores = rows_alive es actor sends line store moment known p i;
   rules = rules_of es;
   known = known_is known.answers (answers_of es) i;
+  operators = (planned_by (ask.Alive store moment) p known (part_of es)).operators;
+  limits = (planned_by (ask.Alive store moment) p known (part_of es)).limits;
+  window = (planned_by (ask.Alive store moment) p known (part_of es)).window;
 }
 
-after_beat : (es : List Entry) (actor : Actor) (line store moment : ℕ) (beat : RegionBeat) (known : Heard) (p : Reply)
-    → changed_part (part_of es) (ask.Beat store moment beat) p known ≡ part_of (entry_of actor line (ask.Beat store moment beat) known p ∷ es)
-after_beat es actor line store moment beat known p = λ i. record {
+after_beat : (es : List Entry) (actor : Actor) (sends : List StepMsg) (line store moment : ℕ) (beat : RegionBeat) (known : Heard) (p : Reply)
+    → changed_part (part_of es) (ask.Beat store moment beat) p known ≡ part_of (entry_of actor sends line (ask.Beat store moment beat) known p ∷ es)
+after_beat es actor sends line store moment beat known p = λ i. record {
   term = term_of es;
   began = began_of es;
   clock = max (clock_of es) moment;
@@ -155,11 +169,14 @@ after_beat es actor line store moment beat known p = λ i. record {
   standing = regions_is (beats_of es) beat p i;
   rules = rules_of es;
   known = known_is known.answers (answers_of es) i;
+  operators = (planned_by (ask.Beat store moment beat) p known (part_of es)).operators;
+  limits = (planned_by (ask.Beat store moment beat) p known (part_of es)).limits;
+  window = (planned_by (ask.Beat store moment beat) p known (part_of es)).window;
 }
 
-after_rule : (es : List Entry) (actor : Actor) (line moment : ℕ) (json : List ℕ) (known : Heard) (p : Reply)
-    → changed_part (part_of es) (ask.Rule moment json) p known ≡ part_of (entry_of actor line (ask.Rule moment json) known p ∷ es)
-after_rule es actor line moment json known p = λ i. record {
+after_rule : (es : List Entry) (actor : Actor) (sends : List StepMsg) (line moment : ℕ) (json : List ℕ) (known : Heard) (p : Reply)
+    → changed_part (part_of es) (ask.Rule moment json) p known ≡ part_of (entry_of actor sends line (ask.Rule moment json) known p ∷ es)
+after_rule es actor sends line moment json known p = λ i. record {
   term = term_of es;
   began = began_of es;
   clock = max (clock_of es) moment;
@@ -167,11 +184,14 @@ after_rule es actor line moment json known p = λ i. record {
   standing = table_of (beats_of es);
   rules = set_by p (rule_told json) (rules_of es);
   known = known_is known.answers (answers_of es) i;
+  operators = (planned_by (ask.Rule moment json) p known (part_of es)).operators;
+  limits = (planned_by (ask.Rule moment json) p known (part_of es)).limits;
+  window = (planned_by (ask.Rule moment json) p known (part_of es)).window;
 }
 
-after_unrule : (es : List Entry) (actor : Actor) (line moment : ℕ) (group id : List ℕ) (known : Heard) (p : Reply)
-    → changed_part (part_of es) (ask.Unrule moment group id) p known ≡ part_of (entry_of actor line (ask.Unrule moment group id) known p ∷ es)
-after_unrule es actor line moment group id known p = λ i. record {
+after_unrule : (es : List Entry) (actor : Actor) (sends : List StepMsg) (line moment : ℕ) (group id : List ℕ) (known : Heard) (p : Reply)
+    → changed_part (part_of es) (ask.Unrule moment group id) p known ≡ part_of (entry_of actor sends line (ask.Unrule moment group id) known p ∷ es)
+after_unrule es actor sends line moment group id known p = λ i. record {
   term = term_of es;
   began = began_of es;
   clock = max (clock_of es) moment;
@@ -179,11 +199,49 @@ after_unrule es actor line moment group id known p = λ i. record {
   standing = table_of (beats_of es);
   rules = removed_by p group id (rules_of es);
   known = known_is known.answers (answers_of es) i;
+  operators = (planned_by (ask.Unrule moment group id) p known (part_of es)).operators;
+  limits = (planned_by (ask.Unrule moment group id) p known (part_of es)).limits;
+  window = (planned_by (ask.Unrule moment group id) p known (part_of es)).window;
+}
+
+after_check : (es : List Entry) (actor : Actor) (sends : List StepMsg) (line moment region : ℕ) (known : Heard) (p : Reply)
+    → changed_part (part_of es) (ask.Check moment region) p known ≡ part_of (entry_of actor sends line (ask.Check moment region) known p ∷ es)
+after_check es actor sends line moment region known p = λ i. record {
+  term = term_of es;
+  began = began_of es;
+  clock = max (clock_of es) moment;
+  stores = map (store_of es) (records_of es);
+  standing = table_of (beats_of es);
+  rules = rules_of es;
+  known = known_is known.answers (answers_of es) i;
+  operators = (planned_by (ask.Check moment region) p known (part_of es)).operators;
+  limits = (planned_by (ask.Check moment region) p known (part_of es)).limits;
+  window = (planned_by (ask.Check moment region) p known (part_of es)).window;
+}
+
+-- the records of entries that have what their records tell
+rows_again : (es : List Entry) (stores : List StoreEntry) → AreRows es stores → stores ≡ map (store_of es) (map (λ (entry : StoreEntry). entry.store) stores)
+rows_again es [] are = refl
+rows_again es (entry ∷ stores) are = λ i. are.0 i ∷ rows_again es stores are.1 i
+
+after_patrol : (es : List Entry) (actor : Actor) (sends : List StepMsg) (line moment workers : ℕ) (known : Heard) (p : Reply)
+    → changed_part (part_of es) (ask.Patrol moment workers) p known ≡ part_of (entry_of actor sends line (ask.Patrol moment workers) known p ∷ es)
+after_patrol es actor sends line moment workers known p = λ i. record {
+  term = term_of es;
+  began = began_of es;
+  clock = max (clock_of es) moment;
+  stores = rows_again es (deed_of (patrol_of (part_of es) moment) (part_of es) moment known.answers).stores (patrol_rows es moment known.answers) i;
+  standing = table_of (beats_of es);
+  rules = rules_of es;
+  known = known_is known.answers (answers_of es) i;
+  operators = (planned_by (ask.Patrol moment workers) p known (part_of es)).operators;
+  limits = (planned_by (ask.Patrol moment workers) p known (part_of es)).limits;
+  window = (planned_by (ask.Patrol moment workers) p known (part_of es)).window;
 }
 
 -- a Term's tables are those of its entry alone
-after_term : (actor : Actor) (line term moment : ℕ) (known : Heard) (p : Reply) → new_part term moment known.answers ≡ part_of (entry_of actor line (ask.Term term moment) known p ∷ [])
-after_term actor line term moment known p = λ i. record {
+after_term : (actor : Actor) (sends : List StepMsg) (line term moment : ℕ) (known : Heard) (p : Reply) → new_part term moment known.answers ≡ part_of (entry_of actor sends line (ask.Term term moment) known p ∷ [])
+after_term actor sends line term moment known p = λ i. record {
   term = term;
   began = moment;
   clock = own i;
@@ -191,6 +249,9 @@ after_term actor line term moment known p = λ i. record {
   standing = [];
   rules = part.rules;
   known = known_is known.answers [] i;
+  operators = part.operators;
+  limits = part.limits;
+  window = part.window;
 }
   where
     part : Part
@@ -199,42 +260,50 @@ after_term actor line term moment known p = λ i. record {
     own : moment ≡ max 0 moment
     own = omega arith
 
-begins_by : (actor : Actor) (line term moment : ℕ) (known : Heard) (p : Reply) → begun_part p term moment known.answers ≡ option_map part_of (begun p (entry_of actor line (ask.Term term moment) known p))
-begins_by actor line term moment known (replies.Term number stores rules) = ap Some (after_term actor line term moment known (replies.Term number stores rules))
-begins_by actor line term moment known p = refl
+begins_by : (actor : Actor) (sends : List StepMsg) (line term moment : ℕ) (known : Heard) (p : Reply) → begun_part p term moment known.answers ≡ option_map part_of (begun p (entry_of actor sends line (ask.Term term moment) known p))
+begins_by actor sends line term moment known (replies.Term number stores rules) = ap Some (after_term actor sends line term moment known (replies.Term number stores rules))
+begins_by actor sends line term moment known p = refl
 
-refines_by : (s : Option (List Entry)) (actor : Actor) (line : ℕ) (r : Request) (known : Heard) (p : Reply) → ((es : List Entry) → s ≡ Some es → Silent es)
-    → stepped (option_map part_of s) r p known ≡ option_map part_of (since_by r (entry_of actor line r known p) s)
-refines_by s actor line (ask.Term term moment) known p silent = begins_by actor line term moment known p
-refines_by s actor line ask.Retire known p silent = refl
-refines_by None actor line (ask.Hello store moment address labels) known p silent = refl
-refines_by None actor line (ask.Alive store moment) known p silent = refl
-refines_by None actor line (ask.Beat store moment beat) known p silent = refl
-refines_by (Some es) actor line (ask.Hello store moment address labels) known p silent = ap Some (after_hello es actor line store moment address labels known p (silent es refl))
-refines_by (Some es) actor line (ask.Alive store moment) known p silent = ap Some (after_alive es actor line store moment known p)
-refines_by (Some es) actor line (ask.Beat store moment beat) known p silent = ap Some (after_beat es actor line store moment beat known p)
-refines_by None actor line (ask.Rule moment json) known p silent = refl
-refines_by None actor line (ask.Unrule moment group id) known p silent = refl
-refines_by (Some es) actor line (ask.Rule moment json) known p silent = ap Some (after_rule es actor line moment json known p)
-refines_by (Some es) actor line (ask.Unrule moment group id) known p silent = ap Some (after_unrule es actor line moment group id known p)
+refines_by : (s : Option (List Entry)) (actor : Actor) (sends : List StepMsg) (line : ℕ) (r : Request) (known : Heard) (p : Reply) → ((es : List Entry) → s ≡ Some es → Silent es)
+    → stepped (option_map part_of s) r p known ≡ option_map part_of (since_by r (entry_of actor sends line r known p) s)
+refines_by s actor sends line (ask.Term term moment) known p silent = begins_by actor sends line term moment known p
+refines_by s actor sends line ask.Retire known p silent = refl
+refines_by None actor sends line (ask.Hello store moment address labels) known p silent = refl
+refines_by None actor sends line (ask.Alive store moment) known p silent = refl
+refines_by None actor sends line (ask.Beat store moment beat) known p silent = refl
+refines_by (Some es) actor sends line (ask.Hello store moment address labels) known p silent = ap Some (after_hello es actor sends line store moment address labels known p (silent es refl))
+refines_by (Some es) actor sends line (ask.Alive store moment) known p silent = ap Some (after_alive es actor sends line store moment known p)
+refines_by (Some es) actor sends line (ask.Beat store moment beat) known p silent = ap Some (after_beat es actor sends line store moment beat known p)
+refines_by None actor sends line (ask.Rule moment json) known p silent = refl
+refines_by None actor sends line (ask.Unrule moment group id) known p silent = refl
+refines_by None actor sends line (ask.Check moment region) known p silent = refl
+refines_by None actor sends line (ask.Patrol moment workers) known p silent = refl
+refines_by (Some es) actor sends line (ask.Rule moment json) known p silent = ap Some (after_rule es actor sends line moment json known p)
+refines_by (Some es) actor sends line (ask.Unrule moment group id) known p silent = ap Some (after_unrule es actor sends line moment group id known p)
+refines_by (Some es) actor sends line (ask.Check moment region) known p silent = ap Some (after_check es actor sends line moment region known p)
+refines_by (Some es) actor sends line (ask.Patrol moment workers) known p silent = ap Some (after_patrol es actor sends line moment workers known p)
 
 -- silence, over one entry more
-silent_hello : (es : List Entry) (actor : Actor) (line store moment : ℕ) (address : List ℕ) (labels : List Label) (known : Heard) (p : Reply) → Silent es → Silent (hello_of actor line store moment address labels known p ∷ es)
-silent_hello es actor line store moment address labels known replies.StorePut silent = λ other k.
+silent_patrol : (es : List Entry) (moment : ℕ) (known : Heard) → Silent es → (store : ℕ)
+    → record_at store (map (λ (entry : StoreEntry). entry.store) (deed_of (patrol_of (part_of es) moment) (part_of es) moment known.answers).stores) ≡ None → heartbeat es store ≡ None
+silent_patrol es moment known silent store none = silent store (patrol_unknown es moment store known.answers none)
+
+silent_hello : (es : List Entry) (actor : Actor) (sends : List StepMsg) (line store moment : ℕ) (address : List ℕ) (labels : List Label) (known : Heard) (p : Reply) → Silent es → Silent (hello_of actor sends line store moment address labels known p ∷ es)
+silent_hello es actor sends line store moment address labels known replies.StorePut silent = λ other k.
     let rec = kept_state (record_at store (records_of es)) (greeting store address labels) in
     let before = unknown_before (kept_state (record_at store (records_of es)) (greeting store address labels)) other (records_of es) k in
     let apart = subst (λ (n : ℕ). nat_eq other n ≡ false) (kept_id (record_at store (records_of es)) (greeting store address labels)) before.1 in
     ap (λ (t : Bool). cond t (Some (later (heartbeat es other) moment)) (heartbeat es other)) apart ∙ silent other before.0
-silent_hello es actor line store moment address labels known p silent = silent
+silent_hello es actor sends line store moment address labels known p silent = silent
 
 -- a heartbeat of a store that isn't known isn't taken
 unheard : (o : Option StoreEntry) → o ≡ None → alive_reply (option_map (λ (e : StoreEntry). e.store.state) o) ≡ replies.UnknownStore
 unheard None h = refl
 unheard (Some e) h = absurd cc
 
-silent_alive : (es : List Entry) (actor : Actor) (line store moment : ℕ) (known : Heard) (p : Reply) → p ≡ alive_reply (state_at store (map (store_of es) (records_of es))) → Silent es
-    → Silent (entry_of actor line (ask.Alive store moment) known p ∷ es)
-silent_alive es actor line store moment known replies.Alive is silent = λ other k. by_test other k (nat_eq other store) refl
+silent_alive : (es : List Entry) (actor : Actor) (sends : List StepMsg) (line store moment : ℕ) (known : Heard) (p : Reply) → p ≡ alive_reply (state_at store (map (store_of es) (records_of es))) → Silent es
+    → Silent (entry_of actor sends line (ask.Alive store moment) known p ∷ es)
+silent_alive es actor sends line store moment known replies.Alive is silent = λ other k. by_test other k (nat_eq other store) refl
   where
     by_test : (other : ℕ) → record_at other (records_of es) ≡ None → (t : Bool) → nat_eq other store ≡ t → cond t (Some (later (heartbeat es other) moment)) (heartbeat es other) ≡ None
     by_test other k true t =
@@ -243,33 +312,37 @@ silent_alive es actor line store moment known replies.Alive is silent = λ other
         let none = unheard (entry_at store (map (store_of es) (records_of es))) (entry_map (store_of es) (λ r. refl) store (records_of es) ∙ ap (option_map (store_of es)) unknown) in
         absurd (let g : replies.Alive ≡ replies.UnknownStore = is ∙ none in cc)
     by_test other k false t = silent other k
-silent_alive es actor line store moment known p is silent = silent
+silent_alive es actor sends line store moment known p is silent = silent
 
 some_is : (es fs : List Entry) → Some es ≡ Some fs → Silent es → Silent fs
 some_is es fs h silent = let e : es ≡ fs = cc in subst Silent e silent
 
-silent_more : (s : Option (List Entry)) (actor : Actor) (line : ℕ) (r : Request) (known : Heard) (p : Reply) → ((es : List Entry) → s ≡ Some es → Silent es)
-    → p ≡ first_reply (option_map part_of s) r known → (fs : List Entry) → since_by r (entry_of actor line r known p) s ≡ Some fs → Silent fs
-silent_more s actor line (ask.Term term moment) known (replies.Term t n m) silent is fs h = some_is _ fs h (λ store k. refl)
-silent_more s actor line (ask.Term term moment) known p silent is fs h = absurd cc
-silent_more s actor line ask.Retire known p silent is fs h = absurd cc
-silent_more None actor line (ask.Hello store moment address labels) known p silent is fs h = absurd cc
-silent_more None actor line (ask.Alive store moment) known p silent is fs h = absurd cc
-silent_more None actor line (ask.Beat store moment beat) known p silent is fs h = absurd cc
-silent_more (Some es) actor line (ask.Hello store moment address labels) known p silent is fs h = some_is _ fs h (silent_hello es actor line store moment address labels known p (silent es refl))
-silent_more (Some es) actor line (ask.Alive store moment) known p silent is fs h = some_is _ fs h (silent_alive es actor line store moment known p is (silent es refl))
-silent_more (Some es) actor line (ask.Beat store moment beat) known p silent is fs h = some_is _ fs h (silent es refl)
-silent_more None actor line (ask.Rule moment json) known p silent is fs h = absurd cc
-silent_more None actor line (ask.Unrule moment group id) known p silent is fs h = absurd cc
-silent_more (Some es) actor line (ask.Rule moment json) known p silent is fs h = some_is _ fs h (silent es refl)
-silent_more (Some es) actor line (ask.Unrule moment group id) known p silent is fs h = some_is _ fs h (silent es refl)
+silent_more : (s : Option (List Entry)) (actor : Actor) (sends : List StepMsg) (line : ℕ) (r : Request) (known : Heard) (p : Reply) → ((es : List Entry) → s ≡ Some es → Silent es)
+    → p ≡ first_reply (option_map part_of s) r known → (fs : List Entry) → since_by r (entry_of actor sends line r known p) s ≡ Some fs → Silent fs
+silent_more s actor sends line (ask.Term term moment) known (replies.Term t n m) silent is fs h = some_is _ fs h (λ store k. refl)
+silent_more s actor sends line (ask.Term term moment) known p silent is fs h = absurd cc
+silent_more s actor sends line ask.Retire known p silent is fs h = absurd cc
+silent_more None actor sends line (ask.Hello store moment address labels) known p silent is fs h = absurd cc
+silent_more None actor sends line (ask.Alive store moment) known p silent is fs h = absurd cc
+silent_more None actor sends line (ask.Beat store moment beat) known p silent is fs h = absurd cc
+silent_more (Some es) actor sends line (ask.Hello store moment address labels) known p silent is fs h = some_is _ fs h (silent_hello es actor sends line store moment address labels known p (silent es refl))
+silent_more (Some es) actor sends line (ask.Alive store moment) known p silent is fs h = some_is _ fs h (silent_alive es actor sends line store moment known p is (silent es refl))
+silent_more (Some es) actor sends line (ask.Beat store moment beat) known p silent is fs h = some_is _ fs h (silent es refl)
+silent_more None actor sends line (ask.Rule moment json) known p silent is fs h = absurd cc
+silent_more None actor sends line (ask.Unrule moment group id) known p silent is fs h = absurd cc
+silent_more None actor sends line (ask.Check moment region) known p silent is fs h = absurd cc
+silent_more None actor sends line (ask.Patrol moment workers) known p silent is fs h = absurd cc
+silent_more (Some es) actor sends line (ask.Rule moment json) known p silent is fs h = some_is _ fs h (silent es refl)
+silent_more (Some es) actor sends line (ask.Unrule moment group id) known p silent is fs h = some_is _ fs h (silent es refl)
+silent_more (Some es) actor sends line (ask.Check moment region) known p silent is fs h = some_is _ fs h (silent es refl)
+silent_more (Some es) actor sends line (ask.Patrol moment workers) known p silent is fs h = some_is _ fs h (silent_patrol es moment known (silent es refl))
 
 pub silent_after : (driver : ℕ) (past : List Entry) → IsLegal driver past → (es : List Entry) → since past ≡ Some es → Silent es
 silent_after driver [] legal es h = absurd cc
-silent_after driver (e ∷ past) legal es h = silent_more (since past) e.actor e.line e.request (heard_of e) e.reply (silent_after driver past legal.1) legal.0.reply_is es h
+silent_after driver (e ∷ past) legal es h = silent_more (since past) e.actor e.sends e.line e.request (heard_of e) e.reply (silent_after driver past legal.1) legal.0.reply_is es h
 
 pub refines : (driver : ℕ) (past : List Entry) (e : Entry) → IsLegal driver past → stepped (part_after past) e.request e.reply (heard_of e) ≡ part_after (e ∷ past)
-refines driver past e legal = refines_by (since past) e.actor e.line e.request (heard_of e) e.reply (silent_after driver past legal)
+refines driver past e legal = refines_by (since past) e.actor e.sends e.line e.request (heard_of e) e.reply (silent_after driver past legal)
 
 -- a refused request leaves all but the clock, and what its answers tell
 no_put : (p : Reply) (e : StoreEntry) (es : List StoreEntry) → refuses p ≡ true → put_after p e es ≡ es
@@ -281,7 +354,7 @@ no_heard replies.Alive store moment es h = absurd cc
 no_heard p store moment es h = refl
 
 no_beat : (p : Reply) (beat : RegionBeat) (held : List RegionBeat) → refuses p ≡ true → beat_after p beat held ≡ held
-no_beat (replies.Accepted removed) beat held h = absurd cc
+no_beat (replies.Accepted removed answer) beat held h = absurd cc
 no_beat p beat held h = refl
 
 no_set : (p : Reply) (told : Result Rule RuleFault) (rules : List Rule) → refuses p ≡ true → set_by p told rules ≡ rules
@@ -291,6 +364,14 @@ no_set p told rules h = refl
 no_removal : (p : Reply) (group id : List ℕ) (rules : List Rule) → refuses p ≡ true → removed_by p group id rules ≡ rules
 no_removal replies.RuleRemoved group id rules h = absurd cc
 no_removal p group id rules h = refl
+
+no_hello : (p : Reply) (store now : ℕ) (planning : Planning) → refuses p ≡ true → planned_hello p store now planning ≡ planning
+no_hello replies.StorePut store now planning h = absurd cc
+no_hello p store now planning h = refl
+
+no_planned : (p : Reply) (beat : RegionBeat) (around : Around) (planning : Planning) → refuses p ≡ true → planned_beat p beat around planning ≡ planning
+no_planned (replies.Accepted removed answer) beat around planning h = absurd cc
+no_planned p beat around planning h = refl
 
 abbrev pub told_raised : Request → List MetaAnswer → Part → Part
 told_raised request answers part = record part { clock = max part.clock (moment_of request); known = known_after answers part.known }
@@ -302,12 +383,32 @@ leaves_by (Some part) ask.Retire known p is h = absurd (let both : refuses repli
 leaves_by None (ask.Hello store moment address labels) known p is h = refl
 leaves_by None (ask.Alive store moment) known p is h = refl
 leaves_by None (ask.Beat store moment beat) known p is h = refl
-leaves_by (Some part) (ask.Hello store moment address labels) known p is h =
-    ap (λ (es : List StoreEntry). Some (record part { clock = max part.clock moment; known = known_after known.answers part.known; stores = es })) (no_put p _ part.stores h)
+leaves_by (Some part) (ask.Hello store moment address labels) known p is h = λ i. Some (record part {
+  clock = max part.clock moment;
+  known = known_after known.answers part.known;
+  stores = no_put p (greeted (entry_at (kept_state (option_map (λ (entry : StoreEntry). entry.store) (entry_at store part.stores)) (greeting store address labels)).id part.stores) (kept_state (option_map (λ (entry : StoreEntry). entry.store) (entry_at store part.stores)) (greeting store address labels)) part.began moment) part.stores h i;
+  operators = (no_hello p store (max part.clock moment) (planning_of part) h i).operators;
+  limits = (no_hello p store (max part.clock moment) (planning_of part) h i).limits;
+  window = (no_hello p store (max part.clock moment) (planning_of part) h i).window;
+})
 leaves_by (Some part) (ask.Alive store moment) known p is h =
     ap (λ (es : List StoreEntry). Some (record part { clock = max part.clock moment; known = known_after known.answers part.known; stores = es })) (no_heard p store moment part.stores h)
-leaves_by (Some part) (ask.Beat store moment beat) known p is h =
-    ap (λ (held : List RegionBeat). Some (record part { clock = max part.clock moment; known = known_after known.answers part.known; standing = held })) (no_beat p beat part.standing h)
+leaves_by (Some part) (ask.Beat store moment beat) known p is h = λ i. Some (record part {
+  clock = max part.clock moment;
+  known = known_after known.answers part.known;
+  standing = no_beat p beat part.standing h i;
+  operators = (no_planned p beat (around_at part moment) (planning_of part) h i).operators;
+  limits = (no_planned p beat (around_at part moment) (planning_of part) h i).limits;
+  window = (no_planned p beat (around_at part moment) (planning_of part) h i).window;
+})
+leaves_by None (ask.Check moment region) known p is h = refl
+leaves_by (Some part) (ask.Check moment region) known p is h =
+    let same = refused_check part moment region known.answers (subst (λ (q : Reply). refuses q ≡ true) is h) in
+    ap (λ (planning : Planning). Some (replanned (record part { clock = max part.clock moment }) planning (known_after known.answers part.known))) same.0
+leaves_by None (ask.Patrol moment workers) known p is h = refl
+leaves_by (Some part) (ask.Patrol moment workers) known p is h = λ i.
+    let same = refused_patrol part moment known.answers (subst (λ (q : Reply). refuses q ≡ true) is h) in
+    Some (replanned (record part { clock = max part.clock moment; stores = same.1 i }) (same.0 i) (known_after known.answers part.known))
 leaves_by None (ask.Rule moment json) known p is h = refl
 leaves_by None (ask.Unrule moment group id) known p is h = refl
 leaves_by (Some part) (ask.Rule moment json) known p is h =
@@ -318,16 +419,26 @@ leaves_by (Some part) (ask.Unrule moment group id) known p is h =
 -- the journal that serve leaves
 pub served : (driver : ℕ) (entries after : List Entry) (e : Entry) (old new : Option Part) → after ≡ entries ++ e ∷ [] → IsLegal driver (reverse entries) → old ≡ part_after (reverse entries)
     → e.reply ≡ first_reply old e.request (heard_of e) → AreAsked (next_call old e.request) [] e.answers → new ≡ stepped old e.request e.reply (heard_of e)
+    → e.sends ≡ map (message driver (term_in old) (length (reverse entries) + 1)) (sents_by old e.request e.reply (heard_of e))
     → (IsLegal driver (reverse after) × (new ≡ part_after (reverse after))) × IsLegalAfter driver (reverse entries) e
-served driver entries after e old new is legal holds reply_is asked steps =
+served driver entries after e old new is legal holds reply_is asked steps sends =
     let here : IsLegalAfter driver (reverse entries) e = record {
       reply_is = reply_is ∙ ap (λ (o : Option Part). first_reply o e.request (heard_of e)) holds;
       asked = subst (λ (o : Option Part). AreAsked (next_call o e.request) [] e.answers) holds asked;
+      sends_are = subst (λ (o : Option Part). e.sends ≡ map (message driver (term_in o) (length (reverse entries) + 1)) (sents_by o e.request e.reply (heard_of e))) holds sends;
     } in
     let back : reverse after ≡ e ∷ reverse entries = ap reverse is ∙ reverse-append entries (e ∷ []) in
     let now : new ≡ part_after (e ∷ reverse entries) = steps ∙ ap (λ (o : Option Part). stepped o e.request e.reply (heard_of e)) holds ∙ refines driver (reverse entries) e legal in
     let both : IsLegal driver (e ∷ reverse entries) × (new ≡ part_after (e ∷ reverse entries)) = ((here, legal), now) in
     (subst (λ (l : List Entry). IsLegal driver l × (new ≡ part_after l)) (sym back) both, here)
+
+-- the messages of an entry, by its number
+pub sends_from : (driver : ℕ) (entries : List Entry) (old : Option Part) (term entry : ℕ) (sends : List StepMsg) (sents all : List Sent) → sends ≡ map (message driver term entry) sents → term ≡ term_in old → entry ≡ length entries + 1 → sents ≡ all
+    → sends ≡ map (message driver (term_in old) (length (reverse entries) + 1)) all
+sends_from driver entries old term entry sends sents all is term_is entry_is all_is =
+    is ∙ ap (λ (l : List Sent). map (message driver term entry) l) all_is
+    ∙ ap (λ (t : ℕ). map (message driver t entry) all) term_is
+    ∙ ap (λ (n : ℕ). map (message driver (term_in old) n) all) (entry_is ∙ ap (λ (n : ℕ). n + 1) (sym (length-reverse entries)))
 
 pub leaves : (old new : Option Part) (e : Entry) → e.reply ≡ first_reply old e.request (heard_of e) → new ≡ stepped old e.request e.reply (heard_of e) → is_refused e ≡ true → new ≡ with_clock e old
 leaves old new e reply_is steps h = steps ∙ leaves_by old e.request (heard_of e) e.reply reply_is h
@@ -335,5 +446,5 @@ leaves old new e reply_is steps h = steps ∙ leaves_by old e.request (heard_of 
 -- a store whose record was written
 pub welcomed : (old mid new : Part) (store moment : ℕ) (address : List ℕ) (labels : List Label) (rec : StoreRec) (answer : MetaAnswer) (reply : Reply) (known : Heard) → mid ≡ record old { clock = max old.clock moment }
     → rec ≡ kept_state (option_map (λ (e : StoreEntry). e.store) (entry_at store mid.stores)) (greeting store address labels) → reply ≡ replies.StorePut → known.answers ≡ answer ∷ []
-    → new ≡ record mid { stores = placed (greeted (entry_at rec.id mid.stores) rec mid.began moment) mid.stores; known = known_more mid.known answer } → new ≡ changed_part old (ask.Hello store moment address labels) reply known
+    → new ≡ record mid { stores = placed (greeted (entry_at rec.id mid.stores) rec mid.began moment) mid.stores; known = known_more mid.known answer; limits = known_limits mid.limits store mid.clock } → new ≡ changed_part old (ask.Hello store moment address labels) reply known
 welcomed old mid new store moment address labels rec answer reply known mid_is rec_is reply_is known_is new_is = rw (new_is, rec_is, mid_is, reply_is, known_is) refl

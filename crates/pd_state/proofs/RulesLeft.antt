@@ -115,7 +115,7 @@ deleted_known entries entry term expected revision group id is =
 abbrev stores_by : List Entry → Entry → Request → List StoreEntry
 stores_by entries entry request =
     map (λ (rec : StoreRec). let x : StoreEntry = record { store = rec; began = began_by request (began_of entries); beat = heartbeat_by request entry.reply rec.id (heartbeat entries rec.id) } in x)
-    (records_by request entry.reply (heard_of entry) (records_of entries))
+    (records_by request entry.reply (heard_of entry) (part_of entries) (records_of entries))
 
 abbrev LeavesAlone : List Entry → Entry → Type 0
 LeavesAlone entries entry =

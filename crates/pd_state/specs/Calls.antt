@@ -1,6 +1,8 @@
 -- What each request asks of the metadata (own choice: which calls, in which order, and that none is made after a refused one).
-use Rattle.std.specs.Prelude.{◌≡◌, ℕ, nat_lt, Bool, true, false, ◌||◌, if◌then◌else◌, List, [], ◌∷◌, codes, find, length, Result, Ok, Err, Option, Some, None, option_map}
+use Rattle.std.specs.Prelude.{◌≡◌, ℕ, ◌+◌, nat_lt, Bool, true, false, ◌||◌, if◌then◌else◌, List, [], ◌∷◌, codes, find, length, Result, Ok, Err, Option, Some, None, option_map}
 use Rattle.std.specs.List.{cons_option}
+use Rattle.std.specs.Option.{option_map_or}
+use Rattle.pd_types.specs.declared.region.RegionBeat.{RegionBeat}
 use Rattle.pd_types.specs.declared.request.Request.{Request}
 use Rattle.pd_types.specs.declared.request.Request.TheVariants as ask
 use Rattle.serde_json.specs.Written.{compact_text}
@@ -18,9 +20,12 @@ use Rattle.meta_store.specs.declared.record.MetaCall.TheVariants as calls
 use Rattle.meta_store.specs.Cells.{cell_at, revision_in}
 use Rattle.meta_store.specs.Past.{is_accepted}
 use Rattle.meta_store.specs.Stores.{store_bytes, store_key}
+use Rattle.pd_state.specs.Asking.{hearing, wanted}
+use Rattle.pd_state.specs.Checking.{check_of, patrol_of}
 use Rattle.pd_state.specs.declared.part.Part.{Part}
 use Rattle.pd_state.specs.declared.reply.Reply.{Reply}
 use Rattle.pd_state.specs.Replies.{hello_refusal, removal_refused, rule_refusal}
+use Rattle.pd_state.specs.Sends.{region_in}
 use Rattle.pd_state.specs.State.{greeting, kept_state}
 use Rattle.pd_state.specs.StoredRules.{rule_key, rule_told}
 
@@ -93,11 +98,27 @@ next_call (Some part) (ask.Alive store moment) before = None
 next_call (Some part) (ask.Beat store moment beat) before = None
 next_call (Some part) (ask.Rule moment json) before = in_turn (rule_calls part (rule_told json)) before
 next_call (Some part) (ask.Unrule moment group id) before = in_turn (unrule_calls part group id) before
+next_call (Some part) (ask.Check moment region) before = wanted (check_of part moment region (hearing part.known before))
+next_call (Some part) (ask.Patrol moment workers) before = wanted (patrol_of part moment (hearing part.known before))
 next_call None (ask.Hello store moment address labels) before = None
 next_call None (ask.Alive store moment) before = None
 next_call None (ask.Beat store moment beat) before = None
 next_call None (ask.Rule moment json) before = None
 next_call None (ask.Unrule moment group id) before = None
+next_call None (ask.Check moment region) before = None
+next_call None (ask.Patrol moment workers) before = None
+
+-- the peers of regions, and one more for each region: as many ids are drawn at most for the plans of all
+abbrev pub most_draws : List RegionBeat → ℕ
+most_draws [] = 0
+most_draws (beat ∷ beats) = length beat.region.peers + 1 + most_draws beats
+
+-- how many calls a request makes at most: a check draws an id of a new peer and passes over the region's own; a patrol does so for each region, and writes the
+-- record of each store that it buries
+abbrev pub most_calls : Option Part → Request → ℕ
+most_calls (Some part) (ask.Check moment region) = option_map_or (λ (beat : RegionBeat). length beat.region.peers + 1) (region_in region part.standing) 0
+most_calls (Some part) (ask.Patrol moment workers) = most_draws part.standing + length part.stores
+most_calls part request = 2
 
 -- what is said of the answers behind one: the same of those to the calls that are left, or there are none
 abbrev pub AreLeft : Bool → Type 0 → List MetaAnswer → Type 0

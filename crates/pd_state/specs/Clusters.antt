@@ -5,12 +5,15 @@ use Rattle.pd_types.specs.declared.request.Request.{Request}
 use Rattle.pd_types.specs.declared.request.Request.TheVariants as ask
 use Rattle.meta_store.specs.declared.record.MetaAnswer.{MetaAnswer}
 use Rattle.meta_store.specs.declared.record.MetaEntry.{MetaEntry}
+use Rattle.pd_state.specs.declared.adding.Adding.{Adding}
+use Rattle.pd_state.specs.declared.adding.Adding.TheVariants as adding
 use Rattle.pd_state.specs.declared.entry.Entry.{Entry}
 use Rattle.pd_state.specs.declared.part.Part.{Part}
 use Rattle.pd_state.specs.declared.reply.Reply.{Reply}
 use Rattle.pd_state.specs.declared.reply.Reply.TheVariants as replies
 use Rattle.pd_state.specs.State.{moment_of, part_after}
 use Rattle.pd_state.specs.Heard.{known_after, told_all}
+use Rattle.pd_state.specs.Gates.{IsGated}
 use Rattle.pd_state.specs.Legal.{IsLegalAfter}
 
 -- a cluster: its driver, its journal, whether want of memory ended it, and its tables
@@ -34,6 +37,15 @@ pub record Died (old new : ClusterValue) : Type 0 where
   pub entries_is : new.entries ≡ old.entries
   pub dead_is : new.dead ≡ true
 
+-- an operator failed its tests; where it had no id, those that were passed over count as taken
+abbrev pub refuses_adding : Adding → Bool
+refuses_adding (adding.Added answer) = false
+refuses_adding (adding.Add fault) = true
+refuses_adding (adding.OldTerm fence) = false
+refuses_adding (adding.Conflict found) = false
+refuses_adding adding.MetaLimit = false
+refuses_adding adding.IdsSpent = false
+
 -- the reply is a refusal
 abbrev pub refuses : Reply → Bool
 refuses replies.NotLeading = true
@@ -50,13 +62,19 @@ refuses replies.Alive = false
 refuses (replies.Bad fault) = true
 refuses (replies.Stale kept) = true
 refuses replies.Full = true
-refuses (replies.Accepted removed) = false
+refuses (replies.Accepted removed answer) = false
 refuses (replies.BadRule fault) = true
 refuses replies.RuleLimit = true
 refuses replies.RulePut = false
 refuses replies.Absent = true
 refuses replies.LastRule = true
 refuses replies.RuleRemoved = false
+refuses replies.NoRegion = true
+refuses (replies.NeedsSplit key) = true
+refuses replies.NoFault = false
+refuses (replies.Plan class from to came) = refuses_adding came
+refuses (replies.NoPlan from) = true
+refuses (replies.Patrolled regions ok split plan no_plan added buried) = false
 
 -- a request with this reply is refused; a Term isn't among these, since a refused one ends the term before it
 abbrev pub refused_by : Request → Reply → Bool
@@ -67,6 +85,8 @@ refused_by (ask.Alive store moment) reply = refuses reply
 refused_by (ask.Beat store moment beat) reply = refuses reply
 refused_by (ask.Rule moment json) reply = refuses reply
 refused_by (ask.Unrule moment group id) reply = refuses reply
+refused_by (ask.Check moment region) reply = refuses reply
+refused_by (ask.Patrol moment workers) reply = refuses reply
 
 -- the entry is a request that was refused, and no Term
 abbrev pub is_refused : Entry → Bool
@@ -103,4 +123,5 @@ pub record Served (old new : ClusterValue) (door : Spoken) (actor : Actor) (line
   pub lives : new.dead ≡ false
   pub replays : new.part ≡ part_after (reverse new.entries)
   pub legal : IsLegalAfter old.driver (reverse old.entries) entry
+  pub gated : IsGated (reverse old.entries) entry
   pub leaves : is_refused entry ≡ true → new.part ≡ with_clock entry old.part

@@ -1,8 +1,10 @@
 -- What a new term makes of the records that its lead handed out (own choice): a record that doesn't read is passed over, and so is one whose key isn't that of what it reads as.
+use Rattle.std.specs.FinMap as finmap
 use Rattle.std.specs.Prelude.{ℕ, nat_lt, nat_le, nat_eq, if◌then◌else◌, List, [], ◌∷◌, ◌++◌, length, filter, find, Option, Some, None, fold}
 use Rattle.pd_types.specs.declared.rule.Rule.{Rule}
 use Rattle.pd_types.specs.declared.store.StoreRec.{StoreRec}
 use Rattle.store_table.specs.declared.table.TheConstants.{MOST_STORES}
+use Rattle.store_limit.specs.Limits.{StoreLimits, known}
 use Rattle.rule_set.specs.declared.set.TheConstants.{MOST_RULES}
 use Rattle.rule_set.specs.Changes.{default_rule, with_rule}
 use Rattle.meta_store.specs.declared.record.Cell.{Cell}
@@ -29,6 +31,10 @@ store_more (Some rec) recs = if nat_le MOST_STORES (length recs) then recs else 
 -- the stores that the records tell, by rising id
 abbrev pub stores_told : List Cell → List StoreRec
 stores_told cells = fold (λ recs cell. store_more (store_in cell) recs) [] cells
+
+-- the limits of these stores, each known from this moment on with full buckets
+abbrev pub limits_of : ℕ → List StoreRec → StoreLimits
+limits_of moment recs = fold (λ limits rec. known limits rec.id moment) finmap.empty recs
 
 -- a rule more, where one was told and there are fewer than 64
 abbrev pub rule_more : Option Rule → List Rule → List Rule

@@ -1,5 +1,5 @@
 -- What a cluster knows in its term: the stores that it was handed and those that said hello (kvproto pdpb, `PutStore`). Each list of entries has the latest first.
-use Rattle.std.specs.Prelude.{◌≡◌, ◌⊎◌, ℕ, ◌≤◌, Bool, false, ◌||◌, nat_eq, List, [], ◌∷◌, ◌++◌, length, map, Option, Some, None, All, Contains, filter_map}
+use Rattle.std.specs.Prelude.{◌≡◌, ◌⊎◌, ℕ, ◌≤◌, Bool, true, false, ◌||◌, nat_eq, List, [], ◌∷◌, ◌++◌, length, map, Option, Some, None, All, Contains, filter_map}
 use Rattle.std.specs.List.{Any, list_any}
 use Rattle.std.specs.Option.{is_some}
 use Rattle.pd_types.specs.declared.request.Request.{Request}
@@ -12,9 +12,14 @@ use Rattle.pd_types.specs.declared.store.StoreState.TheVariants as states
 use Rattle.meta_store.specs.declared.record.Cell.{Cell}
 use Rattle.meta_store.specs.Cells.{AreRising as AreInKeyOrder}
 use Rattle.store_table.specs.declared.entry.StoreEntry.{StoreEntry}
-use Rattle.store_table.specs.Entries.{AreRising, entry_at}
-use Rattle.pd_state.specs.HandedOut.{or_default, record_at, rules_told, store_in, stores_told}
-use Rattle.pd_state.specs.Heard.{handed_out}
+use Rattle.store_table.specs.Entries.{AreRising, entry_at, state_at}
+use Rattle.id_alloc.specs.Windows.{window_in}
+use Rattle.op_control.specs.Table.{state_of}
+use Rattle.pd_state.specs.HandedOut.{limits_of, or_default, record_at, rules_told, store_in, stores_told}
+use Rattle.pd_state.specs.Checking.{deed_of, patrol_of}
+use Rattle.pd_state.specs.Heard.{handed_out, heard_of}
+use Rattle.pd_state.specs.State.{part_of}
+use Rattle.pd_state.specs.declared.heard.Heard.{Heard}
 use Rattle.pd_state.specs.StoredRules.{rule_in}
 use Rattle.pd_state.specs.declared.entry.Entry.{Entry}
 use Rattle.pd_state.specs.declared.part.Part.{Part}
@@ -35,6 +40,8 @@ greets store (ask.Alive at moment) reply = false
 greets store (ask.Beat at moment beat) reply = false
 greets store (ask.Rule moment json) reply = false
 greets store (ask.Unrule moment group id) reply = false
+greets store (ask.Check moment region) reply = false
+greets store (ask.Patrol moment workers) reply = false
 
 -- an accepted hello of this store
 abbrev pub is_hello : ℕ → Entry → Bool
@@ -60,6 +67,8 @@ begun_with (ask.Alive store moment) own before = before
 begun_with (ask.Beat store moment beat) own before = before
 begun_with (ask.Rule moment json) own before = before
 begun_with (ask.Unrule moment group id) own before = before
+begun_with (ask.Check moment region) own before = before
+begun_with (ask.Patrol moment workers) own before = before
 
 -- the records that a term part was handed
 abbrev pub handed_to : List Entry → List Cell
@@ -71,18 +80,54 @@ abbrev pub state_or_up : Option StoreRec → StoreState
 state_or_up None = states.Up
 state_or_up (Some rec) = rec.state
 
--- no hello of the store was accepted, and this is its record as it was handed out
+-- the state is a tombstone's
+abbrev pub is_tombstone : StoreState → Bool
+is_tombstone states.Up = false
+is_tombstone states.Offline = false
+is_tombstone states.Tombstone = true
+
+-- where there is a state
+abbrev pub has_tombstone : Option StoreState → Bool
+has_tombstone None = false
+has_tombstone (Some state) = is_tombstone state
+
+-- a patrol that stood on this and heard this left the store a tombstone
+abbrev pub entombs : ℕ → Request → Heard → Part → Bool
+entombs store (ask.Patrol moment workers) heard part = has_tombstone (state_at store (deed_of (patrol_of part moment) part moment heard.answers).stores)
+entombs store (ask.Term term moment) heard part = false
+entombs store ask.Retire heard part = false
+entombs store (ask.Hello at moment address labels) heard part = false
+entombs store (ask.Alive at moment) heard part = false
+entombs store (ask.Beat at moment beat) heard part = false
+entombs store (ask.Rule moment json) heard part = false
+entombs store (ask.Unrule moment group id) heard part = false
+entombs store (ask.Check moment region) heard part = false
+
+-- one of these entries is a patrol that left the store a tombstone
+abbrev pub is_entombed : ℕ → List Entry → Bool
+is_entombed store [] = false
+is_entombed store (entry ∷ entries) = entombs store entry.request (heard_of entry) (part_of entries) || is_entombed store entries
+
+-- the state of a store that a patrol buried, or didn't
+abbrev pub buried_state : Bool → StoreState → StoreState
+buried_state true state = states.Tombstone
+buried_state false state = state
+
+-- no hello of the store was accepted, and this is its record as it was handed out, but for the state
 pub record WasHanded (entries : List Entry) (store : ℕ) (rec : StoreRec) : Type 0 where
   pub unheard : list_any (is_hello store) entries ≡ false
-  pub handed : record_at store (stores_told (handed_to entries)) ≡ Some rec
+  pub known : StoreRec
+  pub handed : record_at store (stores_told (handed_to entries)) ≡ Some known
+  pub address : rec.address ≡ known.address
+  pub labels : rec.labels ≡ known.labels
 
 -- The stores that a term part knows: exactly those that it was handed and those of which a hello was accepted. Each has the address
--- and the labels of its last accepted hello, or else those that were handed out, and the state that was, Up for a new one; they
--- stand by rising ids
+-- and the labels of its last accepted hello, or else those that were handed out, and the state that was, Up for a new one, unless a
+-- patrol buried the store; they stand by rising ids
 pub record AreKnown (entries : List Entry) (stores : List StoreEntry) : Type 0 where
   pub known : (store : ℕ) → is_some (entry_at store stores) ≡ (list_any (is_hello store) entries || is_some (record_at store (stores_told (handed_to entries))))
   pub told : (store : ℕ) (found : StoreEntry) → entry_at store stores ≡ Some found → LastHello entries store found.store.address found.store.labels ⊎ WasHanded entries store found.store
-  pub state : (store : ℕ) (found : StoreEntry) → entry_at store stores ≡ Some found → found.store.state ≡ state_or_up (record_at store (stores_told (handed_to entries)))
+  pub state : (store : ℕ) (found : StoreEntry) → entry_at store stores ≡ Some found → found.store.state ≡ buried_state (is_entombed store entries) (state_or_up (record_at store (stores_told (handed_to entries))))
   pub rising : AreRising stores
 
 -- The stores that records tell: each is told by one of them; where the records rise by key and no more than 256 tell a store, each that
@@ -99,7 +144,8 @@ pub record AreRulesTold (cells : List Cell) (rules : List Rule) : Type 0 where
   pub every : AreInKeyOrder cells → length (filter_map rule_in cells) ≤ 64 → All (λ cell. (rule : Rule) → rule_in cell ≡ Some rule → Contains rules rule) cells
   pub few : length rules ≤ 64
 
--- a term that begins knows the stores and rules that it was handed, has heard of no store and has no region
+-- a term that begins knows the stores and rules that it was handed, has heard of no store and has no region and no operator; the limits of its stores are
+-- full, and its window of ids is the one that its records tell, which is used up
 pub record BeginsAnew (part : Part) (term moment : ℕ) (cells : List Cell) : Type 0 where
   pub term_is : part.term ≡ term
   pub began_is : part.began ≡ moment
@@ -108,3 +154,7 @@ pub record BeginsAnew (part : Part) (term moment : ℕ) (cells : List Cell) : Ty
   pub silent : All (λ entry. entry.beat ≡ None) part.stores
   pub regions : part.standing ≡ []
   pub rules : part.rules ≡ or_default (rules_told cells)
+  pub idle : (region : ℕ) → state_of part.operators region ≡ None
+  pub free : part.operators.busy ≡ []
+  pub limits : part.limits ≡ limits_of moment (stores_told cells)
+  pub window : part.window ≡ window_in cells

@@ -6,6 +6,7 @@ use Rattle.pd_types.specs.declared.store.StoreState.TheVariants as states
 use Rattle.store_table.specs.declared.table.TheConstants.{MOST_STORES}
 use Rattle.heartbeat.specs.declared.intake.Intake.{Intake}
 use Rattle.heartbeat.specs.declared.intake.Intake.TheVariants as intakes
+use Rattle.op_control.specs.declared.turn.Dispatch.{Dispatch}
 use Rattle.rule_set.specs.Changes.{remove_refusal, set_refusal}
 use Rattle.rule_set.specs.declared.fault.RemoveFault.{RemoveFault}
 use Rattle.rule_set.specs.declared.fault.RemoveFault.TheVariants.{Absent, LastRule}
@@ -87,9 +88,9 @@ alive_reply (Some states.Tombstone) = replies.Tombstone
 alive_reply (Some states.Up) = replies.Alive
 alive_reply (Some states.Offline) = replies.Alive
 
--- a region heartbeat
-abbrev pub beat_reply : Intake → Reply
-beat_reply (intakes.Bad fault) = replies.Bad fault
-beat_reply (intakes.Stale kept) = replies.Stale kept
-beat_reply intakes.Full = replies.Full
-beat_reply (intakes.Accepted removed) = replies.Accepted (length removed)
+-- a region heartbeat, whose region's operator is dispatched with this answer where it is accepted
+abbrev pub beat_reply : Intake → Dispatch → Reply
+beat_reply (intakes.Bad fault) answer = replies.Bad fault
+beat_reply (intakes.Stale kept) answer = replies.Stale kept
+beat_reply intakes.Full answer = replies.Full
+beat_reply (intakes.Accepted removed) answer = replies.Accepted (length removed) answer

@@ -1,9 +1,11 @@
--- The text of each answer of a cluster (own choice; the texts of a region heartbeat end in what was dispatched, which is `none` without operators).
+-- The text of each answer of a cluster (own choice; the text of an accepted region heartbeat ends in what was dispatched).
 use Rattle.std.specs.Prelude.{ℕ, List, ◌++◌, codes}
 use Rattle.std.specs.Fmt.{decimal}
+use Rattle.hex.specs.Hex.{encode_lower}
 use Rattle.pd_types.specs.BeatCheck.{fault_number}
 use Rattle.rule_text.specs.declared.fault.RuleFault.{RuleFault}
 use Rattle.rule_text.specs.declared.fault.RuleFault.TheVariants as faults
+use Rattle.pd_state.specs.AddingText.{adding_text, class_text, dispatch_text}
 use Rattle.pd_state.specs.declared.reply.Reply.{Reply}
 use Rattle.pd_state.specs.declared.reply.Reply.TheVariants as replies
 
@@ -43,4 +45,12 @@ reply_text replies.RulePut = codes "rule set"
 reply_text replies.Absent = codes "absent"
 reply_text replies.LastRule = codes "last-rule"
 reply_text replies.RuleRemoved = codes "rule removed"
-reply_text (replies.Accepted removed) = codes "accepted removed " ++ decimal removed ++ codes " none"
+reply_text (replies.Accepted removed answer) = codes "accepted removed " ++ decimal removed ++ codes " " ++ dispatch_text answer
+reply_text replies.NoRegion = codes "no-region"
+reply_text (replies.NeedsSplit key) = codes "needs-split " ++ encode_lower key
+reply_text replies.NoFault = codes "no-fault"
+reply_text (replies.Plan class from to came) = codes "plan " ++ class_text class ++ codes " from " ++ decimal from ++ codes " to " ++ decimal to ++ codes " " ++ adding_text came
+reply_text (replies.NoPlan from) = codes "no-plan from " ++ decimal from
+reply_text (replies.Patrolled regions ok split plan no_plan added buried) =
+    codes "patrol regions " ++ decimal regions ++ codes " ok " ++ decimal ok ++ codes " split " ++ decimal split ++ codes " plan " ++ decimal plan
+    ++ codes " no-plan " ++ decimal no_plan ++ codes " added " ++ decimal added ++ codes " buried " ++ decimal buried

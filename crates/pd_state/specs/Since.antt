@@ -20,6 +20,8 @@ since_by (ask.Alive store moment) entry part = option_map (λ entries. entry ∷
 since_by (ask.Beat store moment beat) entry part = option_map (λ entries. entry ∷ entries) part
 since_by (ask.Rule moment json) entry part = option_map (λ entries. entry ∷ entries) part
 since_by (ask.Unrule moment group id) entry part = option_map (λ entries. entry ∷ entries) part
+since_by (ask.Check moment region) entry part = option_map (λ entries. entry ∷ entries) part
+since_by (ask.Patrol moment workers) entry part = option_map (λ entries. entry ∷ entries) part
 
 -- the term part: the entries from the last Term on, where that one was accepted and no Retire came later
 abbrev pub since : List Entry → Option (List Entry)

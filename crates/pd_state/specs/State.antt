@@ -1,5 +1,6 @@
--- What the entries of a term part say of the present: its clock, stores, rules, regions, and which revisions it knows. Each list of entries has the latest first.
-use Rattle.std.specs.Prelude.{ℕ, nat_eq, max, if◌then◌else◌, List, [], ◌∷◌, map, Option, Some, None, option_map, Result, Ok}
+-- What the entries of a term part say of the present: its clock, stores, rules, regions, which revisions it knows, and what is planned. Each list of entries has the latest first.
+use Rattle.std.specs.FinMap as finmap
+use Rattle.std.specs.Prelude.{ℕ, nat_eq, max, fold, if◌then◌else◌, List, [], ◌∷◌, map, Option, Some, None, option_map, Result, Ok}
 use Rattle.pd_types.specs.declared.region.RegionBeat.{RegionBeat}
 use Rattle.pd_types.specs.declared.request.Request.{Request}
 use Rattle.pd_types.specs.declared.request.Request.TheVariants as ask
@@ -7,15 +8,22 @@ use Rattle.pd_types.specs.declared.rule.Rule.{Rule}
 use Rattle.pd_types.specs.declared.store.Label.{Label}
 use Rattle.pd_types.specs.declared.store.StoreRec.{StoreRec}
 use Rattle.pd_types.specs.declared.store.StoreState.TheVariants.{Up}
+use Rattle.region_tree.specs.Stale.{ids_of, removed_by as removed_beats}
 use Rattle.region_tree.specs.Standing.{table_of}
+use Rattle.store_limit.specs.Limits.{known}
+use Rattle.id_alloc.specs.Windows.{window_in}
+use Rattle.op_control.specs.Table.{Table, canceled, dispatched}
 use Rattle.store_table.specs.declared.entry.StoreEntry.{StoreEntry}
 use Rattle.store_table.specs.Standing.{later}
 use Rattle.rule_set.specs.Changes.{with_rule}
 use Rattle.rule_set.specs.Order.{without}
 use Rattle.rule_text.specs.declared.fault.RuleFault.{RuleFault}
+use Rattle.meta_store.specs.declared.record.Cell.{Cell}
 use Rattle.meta_store.specs.Known.{kept_of}
 use Rattle.pd_state.specs.StoredRules.{rule_told}
-use Rattle.pd_state.specs.HandedOut.{or_default, record_at, rules_told, stores_told, with_record}
+use Rattle.pd_state.specs.Adding.{Around, Planning, around_at, planning_of}
+use Rattle.pd_state.specs.Checking.{check_of, deed_of, patrol_of}
+use Rattle.pd_state.specs.HandedOut.{limits_of, or_default, record_at, rules_told, stores_told, with_record}
 use Rattle.pd_state.specs.Heard.{answers_of, handed_out, heard_of}
 use Rattle.pd_state.specs.declared.entry.Entry.{Entry}
 use Rattle.pd_state.specs.declared.heard.Heard.{Heard}
@@ -33,6 +41,8 @@ moment_of (ask.Alive store moment) = moment
 moment_of (ask.Beat store moment beat) = moment
 moment_of (ask.Rule moment json) = moment
 moment_of (ask.Unrule moment group id) = moment
+moment_of (ask.Check moment region) = moment
+moment_of (ask.Patrol moment workers) = moment
 
 -- the clock: the greatest moment of all requests, refused, bad and stale ones too
 abbrev pub clock_of : List Entry → ℕ
@@ -48,6 +58,8 @@ term_by (ask.Alive store moment) before = before
 term_by (ask.Beat store moment beat) before = before
 term_by (ask.Rule moment json) before = before
 term_by (ask.Unrule moment group id) before = before
+term_by (ask.Check moment region) before = before
+term_by (ask.Patrol moment workers) before = before
 
 -- the number of the last Term
 abbrev pub term_of : List Entry → ℕ
@@ -63,6 +75,8 @@ began_by (ask.Alive store moment) before = before
 began_by (ask.Beat store moment beat) before = before
 began_by (ask.Rule moment json) before = before
 began_by (ask.Unrule moment group id) before = before
+began_by (ask.Check moment region) before = before
+began_by (ask.Patrol moment workers) before = before
 
 -- the moment of the last Term
 abbrev pub began_of : List Entry → ℕ
@@ -71,7 +85,7 @@ began_of (entry ∷ entries) = began_by entry.request (began_of entries)
 
 -- a region heartbeat, where it was accepted, before those that came earlier
 abbrev pub accepted_by : Reply → RegionBeat → List RegionBeat → List RegionBeat
-accepted_by (replies.Accepted removed) beat earlier = beat ∷ earlier
+accepted_by (replies.Accepted removed answer) beat earlier = beat ∷ earlier
 accepted_by _ beat earlier = earlier
 
 -- the accepted region heartbeats with one request more
@@ -83,6 +97,8 @@ beats_by (ask.Hello store moment address labels) reply earlier = earlier
 beats_by (ask.Alive store moment) reply earlier = earlier
 beats_by (ask.Rule moment json) reply earlier = earlier
 beats_by (ask.Unrule moment group id) reply earlier = earlier
+beats_by (ask.Check moment region) reply earlier = earlier
+beats_by (ask.Patrol moment workers) reply earlier = earlier
 
 -- the accepted region heartbeats, the latest first
 abbrev pub beats_of : List Entry → List RegionBeat
@@ -112,6 +128,8 @@ heartbeat_by ask.Retire reply store before = before
 heartbeat_by (ask.Beat at moment beat) reply store before = before
 heartbeat_by (ask.Rule moment json) reply store before = before
 heartbeat_by (ask.Unrule moment group id) reply store before = before
+heartbeat_by (ask.Check moment region) reply store before = before
+heartbeat_by (ask.Patrol moment workers) reply store before = before
 
 -- a store's last heartbeat: the greatest moment of its accepted hellos and alives
 abbrev pub heartbeat : List Entry → ℕ → Option ℕ
@@ -132,20 +150,51 @@ abbrev pub greeted_by : Reply → StoreRec → List StoreRec → List StoreRec
 greeted_by replies.StorePut rec recs = with_record (kept_state (record_at rec.id recs) rec) recs
 greeted_by _ rec recs = recs
 
--- a Term's records are those that it was handed, and no request but a hello changes one
-abbrev pub records_by : Request → Reply → Heard → List StoreRec → List StoreRec
-records_by (ask.Term term moment) reply heard recs = stores_told (handed_out heard.answers)
-records_by (ask.Hello store moment address labels) reply heard recs = greeted_by reply (greeting store address labels) recs
-records_by ask.Retire reply heard recs = recs
-records_by (ask.Alive store moment) reply heard recs = recs
-records_by (ask.Beat store moment beat) reply heard recs = recs
-records_by (ask.Rule moment json) reply heard recs = recs
-records_by (ask.Unrule moment group id) reply heard recs = recs
+-- a Term's records are those that it was handed; a hello changes that of its store, and a patrol those of the stores that it buries
+abbrev pub records_by : Request → Reply → Heard → Part → List StoreRec → List StoreRec
+records_by (ask.Term term moment) reply heard part recs = stores_told (handed_out heard.answers)
+records_by (ask.Hello store moment address labels) reply heard part recs = greeted_by reply (greeting store address labels) recs
+records_by (ask.Patrol moment workers) reply heard part recs = map (λ (entry : StoreEntry). entry.store) (deed_of (patrol_of part moment) part moment heard.answers).stores
+records_by ask.Retire reply heard part recs = recs
+records_by (ask.Alive store moment) reply heard part recs = recs
+records_by (ask.Beat store moment beat) reply heard part recs = recs
+records_by (ask.Rule moment json) reply heard part recs = recs
+records_by (ask.Unrule moment group id) reply heard part recs = recs
+records_by (ask.Check moment region) reply heard part recs = recs
 
--- the records that the Term was handed, with the later accepted changes
-abbrev pub records_of : List Entry → List StoreRec
-records_of [] = []
-records_of (entry ∷ entries) = records_by entry.request entry.reply (heard_of entry) (records_of entries)
+-- what a term begins with that was handed these records: no operator, full limits, and a window that is used up
+abbrev pub planning_told : ℕ → List Cell → Planning
+planning_told moment cells = record { operators = record { last = finmap.empty; busy = [] }; limits = limits_of moment (stores_told cells); window = window_in cells }
+
+-- a store that says hello has limits
+abbrev pub planned_hello : Reply → ℕ → ℕ → Planning → Planning
+planned_hello replies.StorePut store now planning = record { operators = planning.operators; limits = known planning.limits store now; window = planning.window }
+planned_hello _ store now planning = planning
+
+-- the operators without those of the regions that a heartbeat displaces
+abbrev pub freed : RegionBeat → List RegionBeat → Table → Table
+freed beat held operators = fold canceled operators (ids_of (removed_beats beat held))
+
+-- an accepted heartbeat: operators of regions that left are gone, and its own region's is dispatched
+abbrev pub planned_beat : Reply → RegionBeat → Around → Planning → Planning
+planned_beat (replies.Accepted removed answer) beat around planning = record {
+  operators = dispatched (freed beat around.held planning.operators) beat around.stores around.now;
+  limits = planning.limits;
+  window = planning.window;
+}
+planned_beat _ beat around planning = planning
+
+-- what is planned after a request, by what stood before it and what it heard
+abbrev pub planned_by : Request → Reply → Heard → Part → Planning
+planned_by (ask.Term term moment) reply heard part = planning_told moment (handed_out heard.answers)
+planned_by (ask.Hello store moment address labels) reply heard part = planned_hello reply store (max part.clock moment) (planning_of part)
+planned_by (ask.Beat store moment beat) reply heard part = planned_beat reply beat (around_at part moment) (planning_of part)
+planned_by (ask.Check moment region) reply heard part = (deed_of (check_of part moment region) part moment heard.answers).planning
+planned_by (ask.Patrol moment workers) reply heard part = (deed_of (patrol_of part moment) part moment heard.answers).planning
+planned_by ask.Retire reply heard part = planning_of part
+planned_by (ask.Alive store moment) reply heard part = planning_of part
+planned_by (ask.Rule moment json) reply heard part = planning_of part
+planned_by (ask.Unrule moment group id) reply heard part = planning_of part
 
 -- a rule that was told, where the reply sets it
 abbrev pub set_by : Reply → Result Rule RuleFault → List Rule → List Rule
@@ -166,6 +215,8 @@ rules_by ask.Retire reply heard rules = rules
 rules_by (ask.Hello store moment address labels) reply heard rules = rules
 rules_by (ask.Alive store moment) reply heard rules = rules
 rules_by (ask.Beat store moment beat) reply heard rules = rules
+rules_by (ask.Check moment region) reply heard rules = rules
+rules_by (ask.Patrol moment workers) reply heard rules = rules
 
 -- the rules that the Term was handed, with the later accepted changes
 abbrev pub rules_of : List Entry → List Rule
@@ -176,17 +227,46 @@ rules_of (entry ∷ entries) = rules_by entry.request entry.reply (heard_of entr
 abbrev pub store_of : List Entry → StoreRec → StoreEntry
 store_of entries rec = record { store = rec; began = began_of entries; beat = heartbeat entries rec.id }
 
--- what stands after these entries of a term part
-abbrev pub part_of : List Entry → Part
-part_of entries = record {
+-- What a term keeps that rests on all that stood before each request: its stores' records, and what is planned
+pub record Kept : Type 0 where
+  pub records : List StoreRec
+  pub planning : Planning
+
+-- what stands after these entries of a term part, where this is kept
+abbrev pub part_with : List Entry → Kept → Part
+part_with entries kept = record {
   term = term_of entries;
   began = began_of entries;
   clock = clock_of entries;
-  stores = map (store_of entries) (records_of entries);
+  stores = map (store_of entries) kept.records;
   standing = table_of (beats_of entries);
   rules = rules_of entries;
   known = kept_of (answers_of entries);
+  operators = kept.planning.operators;
+  limits = kept.planning.limits;
+  window = kept.planning.window;
 }
+
+-- what is kept after an entry, by what stood before it
+abbrev pub kept_by : Entry → Kept → Part → Kept
+kept_by entry kept part = record {
+  records = records_by entry.request entry.reply (heard_of entry) part kept.records;
+  planning = planned_by entry.request entry.reply (heard_of entry) part;
+}
+
+-- what is kept after these entries: the records that the Term was handed, with the later accepted changes; the operators that were added and haven't ended,
+-- the charges of their steps, and the ids that were taken
+abbrev pub kept_after : List Entry → Kept
+kept_after [] = record { records = []; planning = planning_told 0 [] }
+kept_after (entry ∷ entries) = kept_by entry (kept_after entries) (part_with entries (kept_after entries))
+
+-- the records of the stores
+abbrev pub records_of : List Entry → List StoreRec
+records_of entries = (kept_after entries).records
+
+-- what stands after these entries of a term part
+abbrev pub part_of : List Entry → Part
+part_of entries = part_with entries (kept_after entries)
 
 -- the tables after a journal: none without a term part
 abbrev pub part_after : List Entry → Option Part

@@ -17,7 +17,8 @@ use Rattle.pd_state.specs.declared.heard.Heard.{Heard}
 use Rattle.pd_state.specs.declared.part.Part.{Part}
 use Rattle.pd_state.specs.declared.reply.Reply.{Reply}
 use Rattle.pd_state.specs.declared.reply.Reply.TheVariants as replies
-use Rattle.pd_state.specs.State.{moment_of, greeting, kept_state, removed_by, set_by}
+use Rattle.pd_state.specs.Checking.{deed_of, patrol_of}
+use Rattle.pd_state.specs.State.{moment_of, greeting, kept_state, planned_by, planning_told, removed_by, set_by}
 use Rattle.pd_state.specs.StoredRules.{rule_told}
 
 -- a store that says hello: a new one's term began with that of its cluster
@@ -40,19 +41,21 @@ heard_after replies.Alive store moment entries = changed store (heard moment) en
 heard_after _ store moment entries = entries
 
 -- the entries after a request with this reply
-abbrev pub stores_after : Request → Reply → ℕ → List StoreEntry → List StoreEntry
-stores_after (ask.Hello store moment address labels) reply began entries =
+abbrev pub stores_after : Request → Reply → Heard → Part → ℕ → List StoreEntry → List StoreEntry
+stores_after (ask.Hello store moment address labels) reply heard part began entries =
     hello_after reply (kept_state (option_map (λ entry. entry.store) (entry_at store entries)) (greeting store address labels)) began moment entries
-stores_after (ask.Alive store moment) reply began entries = heard_after reply store moment entries
-stores_after (ask.Term term moment) reply began entries = entries
-stores_after ask.Retire reply began entries = entries
-stores_after (ask.Beat store moment beat) reply began entries = entries
-stores_after (ask.Rule moment json) reply began entries = entries
-stores_after (ask.Unrule moment group id) reply began entries = entries
+stores_after (ask.Alive store moment) reply heard part began entries = heard_after reply store moment entries
+stores_after (ask.Patrol moment workers) reply heard part began entries = (deed_of (patrol_of part moment) part moment heard.answers).stores
+stores_after (ask.Term term moment) reply heard part began entries = entries
+stores_after ask.Retire reply heard part began entries = entries
+stores_after (ask.Beat store moment beat) reply heard part began entries = entries
+stores_after (ask.Rule moment json) reply heard part began entries = entries
+stores_after (ask.Unrule moment group id) reply heard part began entries = entries
+stores_after (ask.Check moment region) reply heard part began entries = entries
 
 -- the regions after a heartbeat with this reply
 abbrev pub beat_after : Reply → RegionBeat → List RegionBeat → List RegionBeat
-beat_after (replies.Accepted removed) beat held = put_beat beat held
+beat_after (replies.Accepted removed answer) beat held = put_beat beat held
 beat_after _ beat held = held
 
 -- the regions after a request with this reply
@@ -64,6 +67,8 @@ standing_after (ask.Hello store moment address labels) reply held = held
 standing_after (ask.Alive store moment) reply held = held
 standing_after (ask.Rule moment json) reply held = held
 standing_after (ask.Unrule moment group id) reply held = held
+standing_after (ask.Check moment region) reply held = held
+standing_after (ask.Patrol moment workers) reply held = held
 
 -- the rules after a request with this reply
 abbrev pub rules_after : Request → Reply → List Rule → List Rule
@@ -74,6 +79,8 @@ rules_after ask.Retire reply rules = rules
 rules_after (ask.Hello store moment address labels) reply rules = rules
 rules_after (ask.Alive store moment) reply rules = rules
 rules_after (ask.Beat store moment beat) reply rules = rules
+rules_after (ask.Check moment region) reply rules = rules
+rules_after (ask.Patrol moment workers) reply rules = rules
 
 -- the tables of a term after a request with this reply, that heard this
 abbrev pub changed_part : Part → Request → Reply → Heard → Part
@@ -81,10 +88,13 @@ changed_part part request reply heard = record {
   term = part.term;
   began = part.began;
   clock = max part.clock (moment_of request);
-  stores = stores_after request reply part.began part.stores;
+  stores = stores_after request reply heard part part.began part.stores;
   standing = standing_after request reply part.standing;
   rules = rules_after request reply part.rules;
   known = known_after heard.answers part.known;
+  operators = (planned_by request reply heard part).operators;
+  limits = (planned_by request reply heard part).limits;
+  window = (planned_by request reply heard part).window;
 }
 
 -- the entry of a store that a term was handed
@@ -111,6 +121,9 @@ new_part term moment answers = record {
   standing = [];
   rules = or_default (rules_told (handed_out answers));
   known = known_after answers [];
+  operators = (planning_told moment (handed_out answers)).operators;
+  limits = (planning_told moment (handed_out answers)).limits;
+  window = (planning_told moment (handed_out answers)).window;
 }
 
 -- the tables after a Term with this reply

@@ -2,9 +2,10 @@
 ghost use Rattle.std.specs.Prelude.{◌≡◌, [], false, true, None, IfOk, OnErr, option_copied, reverse};
 ghost use Rattle.meta_store.specs.Doors.{Serves};
 ghost use Rattle.pd_state.specs.Clusters.{cluster_value, Died, Replays, Served};
-ghost use Rattle.pd_state.specs.Legal.{IsLegal};
+ghost use Rattle.pd_state.specs.Legal.{IsLegal, term_in};
 
 use crate::heard::{Done, Heard};
+use crate::sent::messages;
 use crate::serve::step;
 use crate::{Entry, Journal, Part, Reply};
 use meta_store::Door;
@@ -25,15 +26,29 @@ pub struct Cluster {
 
 impl Model for Cluster {
     ghost use Rattle.std.specs.Prelude.{◌≡◌, false, reverse};
+    ghost use Rattle.std.specs.Coded.{codes};
+    ghost use Rattle.pd_state.specs.contracts.part.Part as tables;
     ghost use Rattle.pd_state.specs.Clusters.{ClusterValue, cluster_value};
     ghost use Rattle.pd_state.specs.Legal.{IsLegal};
     ghost use Rattle.pd_state.specs.State.{part_after};
 
     ghost Value = { ClusterValue };
 
+    ghost coded = { Prim.hlevel (codes, tables.the_row.coded) };
+
     ghost view = { λ c. cluster_value c.driver c.entries c.dead c.part };
 
     ghost invariant = { λ c. IsLegal c.driver (reverse c.entries) × (c.dead ≡ false → c.part ≡ part_after (reverse c.entries)) };
+}
+
+// The number of the term; 0 without one.
+fn term_in(part: &Option<Part>) -> u64
+    ensures value { result ≡ term_in part.now }
+{
+    match part {
+        Some(part) => part.term,
+        None => 0,
+    }
 }
 
 impl Cluster {
@@ -71,14 +86,25 @@ impl Cluster {
         }
         // The tables may be left half changed from here on.
         self.dead = true;
-        let Done { reply, heard } = step(self.alloc, self.driver, &mut self.part, &request, door)?;
+        // Entries are numbered from 1; a journal of 2^64 - 1 of them has no room for more.
+        let Some(entry) = (self.entries.len() as u64).checked_add(1) else {
+            return Err(NoMemory);
+        };
+        let term = term_in(&self.part);
+        let Done {
+            reply,
+            heard,
+            sents,
+        } = step(self.alloc, self.driver, &mut self.part, &request, door)?;
         let Heard { answers } = heard;
+        let sends = messages(self.alloc, self.driver, term, entry, &sents)?;
         let answered = reply.copy(self.alloc)?;
         self.entries.push(Entry {
             actor,
             line,
             request,
             answers,
+            sends,
             reply,
         })?;
         self.dead = false;

@@ -1,15 +1,16 @@
 use crate::Reply;
 use meta_store::MetaAnswers;
-use pd_types::{Actor, Request, Seq};
+use pd_types::{Actor, Request, Seq, StepMsgs};
 
 /// A request that a cluster served: who asked, at which line, what, what the metadata answered to
-/// its calls, in their order, and what was replied.
+/// its calls and the steps that were sent, in their order, and what was replied.
 #[derive(Debug, Drop)]
 pub struct Entry {
     pub actor: Actor,
     pub line: u32,
     pub request: Request,
     pub answers: MetaAnswers,
+    pub sends: StepMsgs,
     pub reply: Reply,
 }
 

@@ -1,7 +1,7 @@
 // What a new term makes of the records that its lead handed out.
 ghost use Rattle.std.specs.Prelude.{◌≡◌, ◌≢◌, Some, IfOk, OnOk, [], map};
 ghost use Rattle.rule_set.specs.RuleSets.{HasFewLocations};
-ghost use Rattle.pd_state.specs.HandedOut.{or_default, rule_more, rules_told, store_in, stores_told};
+ghost use Rattle.pd_state.specs.HandedOut.{limits_of, or_default, rule_more, rules_told, store_in, stores_told};
 ghost use Rattle.pd_state.specs.StoredRules.{rule_in};
 ghost use Rattle.pd_state.specs.Steps.{entry_more, loaded_at, set_list};
 
@@ -10,6 +10,7 @@ use meta_store::{Cell, read_store_text};
 use pd_types::{NoMemory, Rule, Rules};
 use rule_set::{MOST_RULES, RuleSet};
 use std::alloc::Global;
+use store_limit::Limits;
 use store_table::{MOST_STORES, Stores};
 
 // Takes in the store that a record tells, while fewer than 256 are known.
@@ -75,6 +76,20 @@ fn take_rule(alloc: Global, rules: &mut Option<RuleSet>, rule: Rule) -> Result<(
         // There are fewer than 64, so that memory alone was wanting.
         Err(_) => Err(NoMemory),
     }
+}
+
+/// The limits of these stores, which a term knows from its beginning at this moment.
+pub fn limits_told(alloc: Global, stores: &Stores, began: u64) -> Result<Limits, NoMemory>
+    ensures value { IfOk result (λ limits. limits ≡ limits_of began (map (λ entry. entry.store) stores.now)) }
+{
+    let mut limits = Limits::new(alloc);
+    for place in 0..stores.len() {
+        let Some(store) = stores.at(place) else {
+            unreachable!()
+        };
+        limits.know(store.id, began)?;
+    }
+    Ok(limits)
 }
 
 /// The rules that the records tell; the default rule where they tell none.

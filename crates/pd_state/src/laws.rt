@@ -10,6 +10,7 @@ ghost use Rattle.pd_types.specs.declared.store.StoreState.TheVariants as states;
 ghost use Rattle.pd_types.specs.declared.beat.BeatFault.{BeatFault};
 ghost use Rattle.pd_types.specs.declared.region.Epoch.{Epoch};
 ghost use Rattle.heartbeat.specs.declared.intake.Intake.TheVariants as intakes;
+ghost use Rattle.op_control.specs.declared.turn.Dispatch.{Dispatch};
 ghost use Rattle.region_tree.specs.Standing.{IsTable};
 ghost use Rattle.meta_store.specs.declared.record.Cell.{Cell};
 ghost use Rattle.meta_store.specs.declared.record.MetaAnswer.{MetaAnswer};
@@ -77,10 +78,12 @@ pub fn the_clock_is_the_greatest_moment()
     ensures rule { (moment : ℕ) (json : List ℕ) → moment_of (ask.Rule moment json) ≡ moment }
     ensures unrule { (moment : ℕ) (group id : List ℕ) →
         moment_of (ask.Unrule moment group id) ≡ moment }
+    ensures check { (moment region : ℕ) → moment_of (ask.Check moment region) ≡ moment }
+    ensures patrol { (moment workers : ℕ) → moment_of (ask.Patrol moment workers) ≡ moment }
 {}
 
-/// Every request of a store and each about a rule counts in the term that it is served in, refused or
-/// not, behind those before it.
+/// Every request but a Term and a Retire counts in the term that it is served in, refused or not,
+/// behind those before it.
 pub fn a_request_counts_in_its_term()
     ensures hello { (past entries : List Entry) (entry : Entry) (store moment : ℕ) (address : List ℕ) (labels : List Label) →
         since past ≡ Some entries → entry.request ≡ ask.Hello store moment address labels → since (entry ∷ past) ≡ Some (entry ∷ entries) }
@@ -92,6 +95,10 @@ pub fn a_request_counts_in_its_term()
         since past ≡ Some entries → entry.request ≡ ask.Rule moment json → since (entry ∷ past) ≡ Some (entry ∷ entries) }
     ensures unrule { (past entries : List Entry) (entry : Entry) (moment : ℕ) (group id : List ℕ) →
         since past ≡ Some entries → entry.request ≡ ask.Unrule moment group id → since (entry ∷ past) ≡ Some (entry ∷ entries) }
+    ensures check { (past entries : List Entry) (entry : Entry) (moment region : ℕ) →
+        since past ≡ Some entries → entry.request ≡ ask.Check moment region → since (entry ∷ past) ≡ Some (entry ∷ entries) }
+    ensures patrol { (past entries : List Entry) (entry : Entry) (moment workers : ℕ) →
+        since past ≡ Some entries → entry.request ≡ ask.Patrol moment workers → since (entry ∷ past) ≡ Some (entry ∷ entries) }
 {}
 
 /// A Term that is accepted begins anew, at its own moment, with what it was handed; after one that is
@@ -219,6 +226,10 @@ pub fn the_calls_of_each_request()
         AreAsked (next_call None (ask.Rule moment json)) [] answers → answers ≡ [] }
     ensures unrule { (moment : ℕ) (group id : List ℕ) (answers : List MetaAnswer) →
         AreAsked (next_call None (ask.Unrule moment group id)) [] answers → answers ≡ [] }
+    ensures check { (moment region : ℕ) (answers : List MetaAnswer) →
+        AreAsked (next_call None (ask.Check moment region)) [] answers → answers ≡ [] }
+    ensures patrol { (moment workers : ℕ) (answers : List MetaAnswer) →
+        AreAsked (next_call None (ask.Patrol moment workers)) [] answers → answers ≡ [] }
 {}
 
 /// The revision that a term knows of a key is that of the last accepted write of it that the term
@@ -228,13 +239,14 @@ pub fn the_revisions_are_those_heard()
         revision_in (cell_at key (part_of entries).known) ≡ known_revision key (answers_of entries) }
 {}
 
-/// A region heartbeat is answered as it was taken in; an accepted one by how many others it removed.
+/// A region heartbeat is answered as it was taken in; an accepted one by how many others it removed, and
+/// by what its region's operator is answered.
 pub fn a_heartbeat_is_answered_as_taken()
-    ensures bad { (fault : BeatFault) → beat_reply (intakes.Bad fault) ≡ replies.Bad fault }
-    ensures stale { (kept : Epoch) → beat_reply (intakes.Stale kept) ≡ replies.Stale kept }
-    ensures full { beat_reply intakes.Full ≡ replies.Full }
-    ensures accepted { (removed : List ℕ) →
-        beat_reply (intakes.Accepted removed) ≡ replies.Accepted (length removed) }
+    ensures bad { (fault : BeatFault) (answer : Dispatch) → beat_reply (intakes.Bad fault) answer ≡ replies.Bad fault }
+    ensures stale { (kept : Epoch) (answer : Dispatch) → beat_reply (intakes.Stale kept) answer ≡ replies.Stale kept }
+    ensures full { (answer : Dispatch) → beat_reply intakes.Full answer ≡ replies.Full }
+    ensures accepted { (removed : List ℕ) (answer : Dispatch) →
+        beat_reply (intakes.Accepted removed) answer ≡ replies.Accepted (length removed) answer }
 {}
 
 /// A store is heard by its own accepted hellos and alives, of which the greatest moment counts, and by
@@ -261,6 +273,10 @@ pub fn a_store_is_heard_by_hello_and_alive()
         heartbeat_by (ask.Rule moment json) reply store before ≡ before }
     ensures unrule { (store moment : ℕ) (group id : List ℕ) (reply : Reply) (before : Option ℕ) →
         heartbeat_by (ask.Unrule moment group id) reply store before ≡ before }
+    ensures check { (store moment region : ℕ) (reply : Reply) (before : Option ℕ) →
+        heartbeat_by (ask.Check moment region) reply store before ≡ before }
+    ensures patrol { (store moment workers : ℕ) (reply : Reply) (before : Option ℕ) →
+        heartbeat_by (ask.Patrol moment workers) reply store before ≡ before }
     ensures began { (entries : List Entry) →
         All (λ store. store.began ≡ began_of entries) (part_of entries).stores }
 {}

@@ -1,22 +1,34 @@
 //! The cluster of a driver: what it knows of stores, rules and regions, and the journal of its requests.
 #![tactic(auto)]
 
+mod adding;
+mod burial;
+mod check_laws;
+#[cfg(test)]
+mod check_tests;
+mod checking;
 mod cluster;
 mod entry;
 mod handed;
 mod heard;
 mod laws;
 mod part;
+mod patrol;
 mod placement;
+mod planning;
 mod reply;
 mod rule_laws;
 mod rules;
+mod sent;
 mod serve;
 mod stores;
 #[cfg(test)]
 mod tests;
 mod write;
 
+pub use adding::Adding;
+pub use check_laws::{each_sent_step_is_safe, operators_live_by_the_table};
+pub use checking::CHECK_PRIORITY;
 pub use cluster::Cluster;
 pub use entry::{Entry, Journal};
 pub use heard::Heard;

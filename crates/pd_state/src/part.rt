@@ -1,8 +1,11 @@
 ghost use Rattle.std.specs.Prelude.{◌≡◌, max};
 
 use heartbeat::Standing;
+use id_alloc::IdWindow;
 use meta_store::Known;
+use op_control::Operators;
 use rule_set::RuleSet;
+use store_limit::Limits;
 use store_table::Stores;
 
 /// What a cluster knows in a term. Moments are in milliseconds.
@@ -18,6 +21,10 @@ pub struct Part {
     pub rules: RuleSet,
     /// The revisions of the metadata's records, as far as the term heard of them.
     pub known: Known,
+    pub operators: Operators,
+    pub limits: Limits,
+    /// The ids of new peers.
+    pub window: IdWindow,
 }
 
 impl Part {

@@ -88,6 +88,7 @@ fn set_rule<M: Door>(
     ensures reply { IfOk result (λ done. done.reply ≡ by_answers Reply.RulePut done.heard.answers) }
     ensures asked { IfOk result (λ done. AreAsked (in_turn (told_calls part.old (Ok rule))) [] done.heard.answers) }
     ensures after { IfOk result (λ done. part.new ≡ record part.old { rules = set_by done.reply (Ok rule) part.old.rules; known = known_after done.heard.answers part.old.known }) }
+    ensures sents { IfOk result (λ done. done.sents ≡ []) }
     ensures said { IfOk result (λ done. M.said door.new ≡ M.said door.old ++ done.heard.answers) }
     ensures told { IfOk result (λ done. M.told door.new ≡ told_all (M.told door.old) driver done.heard.answers) }
     ensures place { M.place door.new ≡ M.place door.old }
@@ -96,10 +97,10 @@ fn set_rule<M: Door>(
     let call = rule_put(alloc, part, &rule)?;
     let answers = ask_behind(alloc, door, driver, &mut part.known, first, call)?;
     if let Some(reply) = first_refusal(answers.as_slice()) {
-        return Ok(with_answers(reply, answers));
+        return Ok(with_answers(alloc, reply, answers));
     }
     match part.rules.set(rule) {
-        Ok(()) => Ok(with_answers(Reply::RulePut, answers)),
+        Ok(()) => Ok(with_answers(alloc, Reply::RulePut, answers)),
         // The caller tested that there is room, so that memory alone was wanting.
         Err(_) => Err(NoMemory),
     }
@@ -118,6 +119,7 @@ pub fn rule<M: Door>(
     ensures reply { IfOk result (λ done. done.reply ≡ term_reply part.old (Request.Rule moment json.now) done.heard) }
     ensures asked { IfOk result (λ done. AreAsked (next_call (Some part.old) (Request.Rule moment json.now)) [] done.heard.answers) }
     ensures after { IfOk result (λ done. part.new ≡ changed_part part.old (Request.Rule moment json.now) done.reply done.heard) }
+    ensures sents { IfOk result (λ done. done.sents ≡ []) }
     ensures said { IfOk result (λ done. M.said door.new ≡ M.said door.old ++ done.heard.answers) }
     ensures told { IfOk result (λ done. M.told door.new ≡ told_all (M.told door.old) driver done.heard.answers) }
     ensures place { M.place door.new ≡ M.place door.old }
@@ -147,6 +149,7 @@ pub fn unrule<M: Door>(
     ensures reply { IfOk result (λ done. done.reply ≡ term_reply part.old (Request.Unrule moment group.now id.now) done.heard) }
     ensures asked { IfOk result (λ done. AreAsked (next_call (Some part.old) (Request.Unrule moment group.now id.now)) [] done.heard.answers) }
     ensures after { IfOk result (λ done. part.new ≡ changed_part part.old (Request.Unrule moment group.now id.now) done.reply done.heard) }
+    ensures sents { IfOk result (λ done. done.sents ≡ []) }
     ensures said { IfOk result (λ done. M.said door.new ≡ M.said door.old ++ done.heard.answers) }
     ensures told { IfOk result (λ done. M.told door.new ≡ told_all (M.told door.old) driver done.heard.answers) }
     ensures place { M.place door.new ≡ M.place door.old }

@@ -2,24 +2,35 @@ ghost use Rattle.std.specs.Prelude.{◌≡◌, Some};
 ghost use Rattle.pd_types.specs.BeatCheck.{fault_number};
 ghost use Rattle.pd_state.specs.ReplyText.{reply_text, rule_fault_number};
 
-use pd_types::{BeatFault, Duplicate, Epoch, NoMemory};
+use crate::adding::{Adding, DispatchText, KeyText, class_text};
+use op_control::Dispatch;
+use pd_types::{BeatFault, Bytes, Duplicate, Epoch, NoMemory};
+use rule_checker::Class;
 use rule_text::RuleFault;
 use std::alloc::Global;
 use std::fmt;
 
 /// What a cluster answers to a request. It prints as the answer's text.
-#[derive(Debug, Drop, PartialEq, Eq)]
+#[derive(Debug, Drop, PartialEq)]
 pub enum Reply {
     /// The cluster has no term.
     NotLeading,
     /// The term began, with these numbers of stores and rules.
-    Term { term: u64, stores: u64, rules: u64 },
+    Term {
+        term: u64,
+        stores: u64,
+        rules: u64,
+    },
     /// The term was given up.
     Retired,
     /// A later term was announced, so that nothing was written.
-    OldTerm { fence: u64 },
+    OldTerm {
+        fence: u64,
+    },
     /// The record has another revision than the cluster knows, so that nothing was written.
-    Conflict { found: u64 },
+    Conflict {
+        found: u64,
+    },
     /// The metadata has no room, so that nothing was written.
     MetaLimit,
     /// The store is a tombstone.
@@ -33,11 +44,17 @@ pub enum Reply {
     /// The region heartbeat fails this test by itself.
     Bad(BeatFault),
     /// A held region shows that the heartbeat is stale, by this epoch.
-    Stale { kept: Epoch },
+    Stale {
+        kept: Epoch,
+    },
     /// More than 65,536 regions would stand.
     Full,
-    /// The heartbeat stands; so many overlapped regions of other ids went.
-    Accepted { removed: u64 },
+    /// The heartbeat stands; so many overlapped regions of other ids went, and its region's operator
+    /// was dispatched with this answer.
+    Accepted {
+        removed: u64,
+        dispatch: Dispatch,
+    },
     /// The rule's text fails this test.
     BadRule(RuleFault),
     /// There are 64 rules, and none of this group and id.
@@ -48,6 +65,37 @@ pub enum Reply {
     /// There is no other rule.
     LastRule,
     RuleRemoved,
+    /// The region isn't held.
+    NoRegion,
+    /// The region crosses a border of rules, the least of which this is.
+    NeedsSplit {
+        key: Bytes,
+    },
+    /// The region fits its rules.
+    NoFault,
+    /// The region's plan is of this class and lowers its misfit number so; and what came of adding
+    /// its operator.
+    Plan {
+        class: Class,
+        from: u64,
+        to: u64,
+        adding: Adding,
+    },
+    /// The region doesn't fit, and no plan lowers its misfit number.
+    NoPlan {
+        from: u64,
+    },
+    /// The numbers of regions and of the checker's verdicts on them, of operators that were added,
+    /// and of stores that were buried.
+    Patrolled {
+        regions: u64,
+        ok: u64,
+        split: u64,
+        plan: u64,
+        no_plan: u64,
+        added: u64,
+        buried: u64,
+    },
 }
 
 // The number of a test of a region heartbeat, from 1 to 8.
@@ -115,7 +163,12 @@ impl fmt::Display for Reply {
                 write!(f, "stale conf {conf_ver} version {version}")
             }
             Reply::Full => write!(f, "full"),
-            Reply::Accepted { removed } => write!(f, "accepted removed {removed} none"),
+            Reply::Accepted { removed, dispatch } => {
+                let text = DispatchText {
+                    dispatch: *dispatch,
+                };
+                write!(f, "accepted removed {removed} {text}")
+            }
             Reply::BadRule(fault) => {
                 let number = rule_fault_number(*fault);
                 write!(f, "bad-rule {number}")
@@ -125,12 +178,45 @@ impl fmt::Display for Reply {
             Reply::Absent => write!(f, "absent"),
             Reply::LastRule => write!(f, "last-rule"),
             Reply::RuleRemoved => write!(f, "rule removed"),
+            Reply::NoRegion => write!(f, "no-region"),
+            Reply::NeedsSplit { key } => {
+                let text = KeyText {
+                    key: key.as_slice(),
+                };
+                write!(f, "needs-split {text}")
+            }
+            Reply::NoFault => write!(f, "no-fault"),
+            Reply::Plan {
+                class,
+                from,
+                to,
+                adding,
+            } => {
+                let class = class_text(*class);
+                write!(f, "plan {class} from {from} to {to} {adding}")
+            }
+            Reply::NoPlan { from } => write!(f, "no-plan from {from}"),
+            Reply::Patrolled {
+                regions,
+                ok,
+                split,
+                plan,
+                no_plan,
+                added,
+                buried,
+            } => {
+                write!(
+                    f,
+                    "patrol regions {regions} ok {ok} split {split} plan {plan}"
+                )?;
+                write!(f, " no-plan {no_plan} added {added} buried {buried}")
+            }
         }
     }
 }
 
 impl Duplicate for Reply {
-    fn copy(&self, _alloc: Global) -> Result<Reply, NoMemory> {
+    fn copy(&self, alloc: Global) -> Result<Reply, NoMemory> {
         Ok(match self {
             Reply::NotLeading => Reply::NotLeading,
             Reply::Term {
@@ -154,13 +240,50 @@ impl Duplicate for Reply {
             Reply::Bad(fault) => Reply::Bad(*fault),
             Reply::Stale { kept } => Reply::Stale { kept: *kept },
             Reply::Full => Reply::Full,
-            Reply::Accepted { removed } => Reply::Accepted { removed: *removed },
+            Reply::Accepted { removed, dispatch } => Reply::Accepted {
+                removed: *removed,
+                dispatch: *dispatch,
+            },
             Reply::BadRule(fault) => Reply::BadRule(*fault),
             Reply::RuleLimit => Reply::RuleLimit,
             Reply::RulePut => Reply::RulePut,
             Reply::Absent => Reply::Absent,
             Reply::LastRule => Reply::LastRule,
             Reply::RuleRemoved => Reply::RuleRemoved,
+            Reply::NoRegion => Reply::NoRegion,
+            Reply::NeedsSplit { key } => Reply::NeedsSplit {
+                key: key.copy(alloc)?,
+            },
+            Reply::NoFault => Reply::NoFault,
+            Reply::Plan {
+                class,
+                from,
+                to,
+                adding,
+            } => Reply::Plan {
+                class: *class,
+                from: *from,
+                to: *to,
+                adding: *adding,
+            },
+            Reply::NoPlan { from } => Reply::NoPlan { from: *from },
+            Reply::Patrolled {
+                regions,
+                ok,
+                split,
+                plan,
+                no_plan,
+                added,
+                buried,
+            } => Reply::Patrolled {
+                regions: *regions,
+                ok: *ok,
+                split: *split,
+                plan: *plan,
+                no_plan: *no_plan,
+                added: *added,
+                buried: *buried,
+            },
         })
     }
 }

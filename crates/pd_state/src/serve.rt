@@ -1,26 +1,33 @@
 // What a request makes of the tables.
-ghost use Rattle.std.specs.Prelude.{◌≡◌, ◌++◌, ◌∷◌, [], Some, IfOk};
+ghost use Rattle.std.specs.Prelude.{◌≡◌, ◌++◌, ◌∷◌, [], fold, length, OnOk, Some, IfOk};
+ghost use Rattle.op_control.specs.Table.{canceled, dispatch_answer, dispatched};
 ghost use Rattle.heartbeat.specs.Intakes.{intake_of};
 ghost use Rattle.meta_store.specs.Asked.{AreAsked};
 ghost use Rattle.meta_store.specs.Cells.{AreRising};
 ghost use Rattle.meta_store.specs.Doors.{Serves};
 ghost use Rattle.pd_state.specs.Calls.{next_call};
 ghost use Rattle.pd_state.specs.Heard.{nothing, told_all};
-ghost use Rattle.pd_state.specs.Legal.{first_reply, term_reply};
+ghost use Rattle.pd_state.specs.Legal.{beat_dispatch, beat_sents, first_reply, sents_by, term_reply};
 ghost use Rattle.pd_state.specs.Replies.{alive_reply, beat_reply};
 ghost use Rattle.pd_state.specs.Steps.{changed_part, new_part, stepped};
 ghost use Rattle.pd_state.specs.declared.heard.Heard.{Heard};
 ghost use Rattle.store_table.specs.Entries.{state_at};
 
-use crate::handed::{rules_told, stores_told};
-use crate::heard::{Done, quiet, with_answer};
+use crate::checking::check_region;
+use crate::handed::{limits_told, rules_told, stores_told};
+use crate::heard::{Done, quiet, with_answer, with_log};
+use crate::patrol::patrol;
 use crate::placement::{rule, unrule};
+use crate::planning::Log;
+use crate::sent::send;
 use crate::stores::{greet, greeted_record, hear, hello_refusal};
 use crate::write::{put, refusal};
 use crate::{Part, Reply};
 use heartbeat::{Intake, Standing};
+use id_alloc::IdWindow;
 use meta_store::{Door, Known, MetaAnswer, ask_lead, store_key, store_text};
-use pd_types::{Duplicate, Labels, NoMemory, RegionBeat, Request, Text};
+use op_control::Operators;
+use pd_types::{Duplicate, Ids, Labels, NoMemory, RegionBeat, Request, Text};
 use std::alloc::Global;
 
 // The tables of a term that was announced, by the records that were handed out.
@@ -31,14 +38,19 @@ fn opened(alloc: Global, term: u64, moment: u64, answer: &MetaAnswer) -> Result<
     let cells = answer.cells.as_slice();
     let mut known = Known::new(alloc);
     known.hear(alloc, answer)?;
+    let stores = stores_told(alloc, cells, moment)?;
+    let limits = limits_told(alloc, &stores, moment)?;
     Ok(Part {
         term,
         began: moment,
         clock: moment,
-        stores: stores_told(alloc, cells, moment)?,
+        stores,
         standing: Standing::new(alloc),
         rules: rules_told(alloc, cells)?,
         known,
+        operators: Operators::new(alloc),
+        limits,
+        window: IdWindow::of(&answer.cells),
     })
 }
 
@@ -56,6 +68,7 @@ fn begin<M: Door>(
     ensures reply { IfOk result (λ done. done.reply ≡ first_reply part.old (Request.Term term moment) done.heard) }
     ensures asked { IfOk result (λ done. AreAsked (next_call part.old (Request.Term term moment)) [] done.heard.answers) }
     ensures after { IfOk result (λ done. part.new ≡ stepped part.old (Request.Term term moment) done.reply done.heard) }
+    ensures sents { IfOk result (λ done. done.sents ≡ []) }
     ensures said { IfOk result (λ done. M.said door.new ≡ M.said door.old ++ done.heard.answers) }
     ensures told { IfOk result (λ done. M.told door.new ≡ told_all (M.told door.old) driver done.heard.answers) }
     ensures place { M.place door.new ≡ M.place door.old }
@@ -101,6 +114,7 @@ fn hello<M: Door>(
     ensures reply { IfOk result (λ done. done.reply ≡ term_reply part.old (Request.Hello store moment address.now labels.now) done.heard) }
     ensures asked { IfOk result (λ done. AreAsked (next_call (Some part.old) (Request.Hello store moment address.now labels.now)) [] done.heard.answers) }
     ensures after { IfOk result (λ done. part.new ≡ changed_part part.old (Request.Hello store moment address.now labels.now) done.reply done.heard) }
+    ensures sents { IfOk result (λ done. done.sents ≡ []) }
     ensures said { IfOk result (λ done. M.said door.new ≡ M.said door.old ++ done.heard.answers) }
     ensures told { IfOk result (λ done. M.told door.new ≡ told_all (M.told door.old) driver done.heard.answers) }
     ensures place { M.place door.new ≡ M.place door.old }
@@ -117,6 +131,7 @@ fn hello<M: Door>(
         return with_answer(alloc, reply, answer);
     }
     greet(&mut part.stores, rec, part.began, moment)?;
+    part.limits.know(store, part.clock)?;
     with_answer(alloc, Reply::StorePut, answer)
 }
 
@@ -128,24 +143,54 @@ fn alive(part: &mut Part, store: u64, moment: u64) -> Reply
     hear(&mut part.stores, store, moment)
 }
 
+// Ends the operators of the regions that a heartbeat displaced.
+fn free(operators: &mut Operators, removed: &[u64])
+    ensures value { operators.new ≡ fold canceled operators.old removed.now }
+{
+    for region in removed {
+        operators.gone(*region);
+    }
+}
+
+// Dispatches an accepted heartbeat, which displaced these regions.
+fn accept(
+    alloc: Global,
+    part: &mut Part,
+    beat: &RegionBeat,
+    removed: &Ids,
+) -> Result<Done, NoMemory>
+    ensures reply { IfOk result (λ done. done.reply ≡ Reply.Accepted (length removed.now) (dispatch_answer (fold canceled part.old.operators removed.now) beat.now part.old.stores part.old.clock)) }
+    ensures heard { IfOk result (λ done. done.heard.answers ≡ []) }
+    ensures after { part.new ≡ record part.old { operators = part.new.operators } }
+    ensures operators { OnOk result (part.new.operators ≡ dispatched (fold canceled part.old.operators removed.now) beat.now part.old.stores part.old.clock) }
+    ensures sents { IfOk result (λ done. done.sents ≡ beat_sents done.reply beat.now) }
+{
+    free(&mut part.operators, removed.as_slice());
+    let dispatch = part.operators.dispatch(beat, &part.stores, part.clock);
+    let mut log = Log::new(alloc);
+    send(&mut log.sents, beat, dispatch)?;
+    let removed = removed.len() as u64;
+    Ok(with_log(Reply::Accepted { removed, dispatch }, log))
+}
+
 fn beat(
     alloc: Global,
     part: &mut Part,
     store: u64,
     moment: u64,
     beat: &RegionBeat,
-) -> Result<Reply, NoMemory>
-    ensures reply { IfOk result (λ reply. reply ≡ beat_reply (intake_of beat.now part.old.standing)) }
-    ensures after { IfOk result (λ reply. part.new ≡ changed_part part.old (Request.Beat store moment beat.now) reply nothing) }
+) -> Result<Done, NoMemory>
+    ensures reply { IfOk result (λ done. done.reply ≡ beat_reply (intake_of beat.now part.old.standing) (beat_dispatch part.old moment beat.now)) }
+    ensures heard { IfOk result (λ done. done.heard.answers ≡ []) }
+    ensures after { IfOk result (λ done. part.new ≡ changed_part part.old (Request.Beat store moment beat.now) done.reply nothing) }
+    ensures sents { IfOk result (λ done. done.sents ≡ beat_sents done.reply beat.now) }
 {
     part.advance(moment);
     match part.standing.intake(beat.copy(alloc)?)? {
-        Intake::Bad(fault) => Ok(Reply::Bad(fault)),
-        Intake::Stale { kept } => Ok(Reply::Stale { kept }),
-        Intake::Full => Ok(Reply::Full),
-        Intake::Accepted { removed } => Ok(Reply::Accepted {
-            removed: removed.len() as u64,
-        }),
+        Intake::Bad(fault) => Ok(quiet(alloc, Reply::Bad(fault))),
+        Intake::Stale { kept } => Ok(quiet(alloc, Reply::Stale { kept })),
+        Intake::Full => Ok(quiet(alloc, Reply::Full)),
+        Intake::Accepted { removed } => accept(alloc, part, beat, &removed),
     }
 }
 
@@ -161,6 +206,7 @@ pub fn step<M: Door>(
     ensures reply { IfOk result (λ done. done.reply ≡ first_reply part.old request.now done.heard) }
     ensures asked { IfOk result (λ done. AreAsked (next_call part.old request.now) [] done.heard.answers) }
     ensures after { IfOk result (λ done. part.new ≡ stepped part.old request.now done.reply done.heard) }
+    ensures sents { IfOk result (λ done. done.sents ≡ sents_by part.old request.now done.reply done.heard) }
     ensures said { IfOk result (λ done. M.said door.new ≡ M.said door.old ++ done.heard.answers) }
     ensures told { IfOk result (λ done. M.told door.new ≡ told_all (M.told door.old) driver done.heard.answers) }
     ensures place { M.place door.new ≡ M.place door.old }
@@ -194,10 +240,15 @@ pub fn step<M: Door>(
             moment,
             beat: heartbeat,
         } => match part {
-            Some(held) => {
-                let reply = beat(alloc, held, *store, *moment, heartbeat)?;
-                Ok(quiet(alloc, reply))
-            }
+            Some(held) => beat(alloc, held, *store, *moment, heartbeat),
+            None => Ok(quiet(alloc, Reply::NotLeading)),
+        },
+        Request::Check { moment, region } => match part {
+            Some(held) => check_region(alloc, driver, held, *moment, *region, door),
+            None => Ok(quiet(alloc, Reply::NotLeading)),
+        },
+        Request::Patrol { moment, workers } => match part {
+            Some(held) => patrol(alloc, driver, held, *moment, *workers, door),
             None => Ok(quiet(alloc, Reply::NotLeading)),
         },
     }

@@ -22,8 +22,8 @@ pub use beat::{BeatFault, MAX_KEY, MAX_PEERS, check_beat};
 pub use gate::{Gate, OpenGate};
 pub use laws::{each_role_votes_or_learns_or_neither, keys_go_by_their_bytes};
 pub use lists::{
-    Batches, Bytes, Constraints, Downs, Duplicate, Ids, Keys, Labels, Peers, Rules, Seq, Steps,
-    Texts, Windows,
+    Batches, Bytes, Constraints, Downs, Duplicate, Ids, Keys, Labels, Peers, Rules, Seq, StepMsgs,
+    Steps, Texts, Windows,
 };
 pub use memory::NoMemory;
 pub use oracle::{

@@ -3,7 +3,9 @@ ghost use Rattle.std.specs.Prelude.{◌≡◌, List, [], ◌∷◌, ◌++◌, le
 ghost use Rattle.std.specs.Cmp.Lexicographic.{pointwise};
 ghost use Rattle.std.specs.Cmp.Lexicographic.{lists_per};
 
-use crate::{Batch, Constraint, DownPeer, Label, NoMemory, Peer, Rule, Step, Text, Window};
+use crate::{
+    Batch, Constraint, DownPeer, Label, NoMemory, Peer, Rule, Step, StepMsg, Text, Window,
+};
 use std::alloc::Global;
 use std::marker::Model;
 
@@ -40,6 +42,8 @@ pub type Peers = Seq<Peer>;
 pub type Rules = Seq<Rule>;
 
 pub type Steps = Seq<Step>;
+
+pub type StepMsgs = Seq<StepMsg>;
 
 pub type Texts = Seq<Text>;
 

@@ -33,6 +33,17 @@ pub enum Request {
         group: Text,
         id: Text,
     },
+    /// Checks a region, and adds the operator that its plan asks for (PD's checkers).
+    Check {
+        moment: u64,
+        region: u64,
+    },
+    /// Checks every region, adds the operators that their plans ask for, and buries stores (PD's
+    /// patrol of the regions). So many workers look at the regions.
+    Patrol {
+        moment: u64,
+        workers: u32,
+    },
     /// The driver won this term.
     Term {
         term: u64,
@@ -77,6 +88,14 @@ impl Duplicate for Request {
                 moment: *moment,
                 group: group.copy(alloc)?,
                 id: id.copy(alloc)?,
+            }),
+            Request::Check { moment, region } => Ok(Request::Check {
+                moment: *moment,
+                region: *region,
+            }),
+            Request::Patrol { moment, workers } => Ok(Request::Patrol {
+                moment: *moment,
+                workers: *workers,
             }),
             Request::Term { term, moment } => Ok(Request::Term {
                 term: *term,

@@ -10,4 +10,6 @@ returns c = record {
   beat = λ past entries entry store moment beat. counts_by (ask.Beat store moment beat) past entries entry (λ part. refl);
   rule = λ past entries entry moment json. counts_by (ask.Rule moment json) past entries entry (λ part. refl);
   unrule = λ past entries entry moment group id. counts_by (ask.Unrule moment group id) past entries entry (λ part. refl);
+  check = λ past entries entry moment region. counts_by (ask.Check moment region) past entries entry (λ part. refl);
+  patrol = λ past entries entry moment workers. counts_by (ask.Patrol moment workers) past entries entry (λ part. refl);
 }

@@ -13,4 +13,6 @@ returns c = record {
   without = λ store moment address labels answers asked. no_calls answers asked;
   rule = λ moment json answers asked. no_calls answers asked;
   unrule = λ moment group id answers asked. no_calls answers asked;
+  check = λ moment region answers asked. no_calls answers asked;
+  patrol = λ moment workers answers asked. no_calls answers asked;
 }

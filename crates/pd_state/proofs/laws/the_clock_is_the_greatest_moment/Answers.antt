@@ -12,4 +12,6 @@ returns c = record {
   beat = λ store moment beat. refl;
   rule = λ moment json. refl;
   unrule = λ moment group id. refl;
+  check = λ moment region. refl;
+  patrol = λ moment workers. refl;
 }

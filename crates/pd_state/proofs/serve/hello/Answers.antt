@@ -15,5 +15,5 @@ pub returns-clause-after : goal.returns-clause-after
 returns-clause-after g c = both c.with_answer-2.result _ _ _
     (λ done one two. welcomed c.args.part.now c.advance.new.self _ c.args.store c.args.moment c.args.address.now c.args.labels.now c.in_ok-rec.rec c.in_ok-answer.answer done.reply done.heard c.advance.ensures.value
     c.in_ok-rec.ensures.value one two
-    (λ i. record c.advance.new.self { stores = c.in_ok-greet.ensures.ok i; known = c.in_ok-answer.ensures.known i }))
+    (λ i. record c.advance.new.self { stores = c.in_ok-greet.ensures.ok i; known = c.in_ok-answer.ensures.known i; limits = c.in_ok-know.ensures.ok i }))
     c.with_answer-2.ensures.reply c.with_answer-2.ensures.heard

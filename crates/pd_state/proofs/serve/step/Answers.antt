@@ -29,3 +29,13 @@ pub returns-in-Some-part-3-clause-asked : goal.returns-in-Some-part-3-clause-ask
 returns-in-Some-part-3-clause-asked g c =
     let at : (let x : Option Part × Request = (c.args.part.now, c.args.request.now) in x) ≡ (Some c.in-Some-part-3.held, ask.Unrule c.in-Unrule.moment c.in-Unrule.group c.in-Unrule.id) = λ i. (c.in-Some-part-3.is i, c.in-Unrule.is i) in
     subst (λ (x : Option Part × Request). IfOk c.unrule.result (λ done. AreAsked (next_call x.0 x.1) [] done.heard.answers)) (sym at) c.unrule.ensures.asked
+
+pub returns-in-Some-part-5-clause-asked : goal.returns-in-Some-part-5-clause-asked
+returns-in-Some-part-5-clause-asked g c =
+    let at : (let x : Option Part × Request = (c.args.part.now, c.args.request.now) in x) ≡ (Some c.in-Some-part-5.held, ask.Check c.in-Check.moment c.in-Check.region) = λ i. (c.in-Some-part-5.is i, c.in-Check.is i) in
+    subst (λ (x : Option Part × Request). IfOk c.check_region.result (λ done. AreAsked (next_call x.0 x.1) [] done.heard.answers)) (sym at) c.check_region.ensures.asked
+
+pub returns-in-Some-part-6-clause-asked : goal.returns-in-Some-part-6-clause-asked
+returns-in-Some-part-6-clause-asked g c =
+    let at : (let x : Option Part × Request = (c.args.part.now, c.args.request.now) in x) ≡ (Some c.in-Some-part-6.held, ask.Patrol c.in-Patrol.moment c.in-Patrol.workers) = λ i. (c.in-Some-part-6.is i, c.in-Patrol.is i) in
+    subst (λ (x : Option Part × Request). IfOk c.patrol.result (λ done. AreAsked (next_call x.0 x.1) [] done.heard.answers)) (sym at) c.patrol.ensures.asked

@@ -1,24 +1,26 @@
-use Rattle.std.proofs.Common.{◌++◌, ◌∷◌, [], reverse, sym, ap, subst, refl, ◌∙◌}
+use Rattle.std.proofs.Common.{arith, ◌++◌, ◌∷◌, [], reverse, sym, ap, subst, refl, ◌∙◌}
 use Rattle.pd_state.specs.Clusters.{with_clock}
 use Rattle.pd_state.specs.Heard.{told_all}
 use Rattle.pd_state.specs.Legal.{IsLegalAfter}
-use Rattle.pd_state.proofs.Refines.{entry_of, served, leaves}
+use Rattle.pd_state.proofs.Refines.{entry_of, leaves, sends_from, served}
+use Rattle.pd_state.proofs.Gates.{gated}
+use Rattle.pd_state.specs.Gates.{IsGated}
 use Rattle.pd_state.proofs.cluster.Cluster.serve.Goals as goal
 
 pub invariant_of-self-2 : goal.invariant_of-self-2
 invariant_of-self-2 g c =
-    let i = c.self.inside in let e = entry_of c.args.actor c.args.line c.args.request c.in_ok-reply.field-0.heard c.in_ok-reply.field-0.reply in
+    let i = c.self.inside in let e = entry_of c.args.actor c.in_ok-sends.sends c.args.line c.args.request c.in_ok-reply.field-0.heard c.in_ok-reply.field-0.reply in
     let s = served i.driver i.entries c.push.new.self e i.part c.step.new.part
     c.in_ok-push.ensures.ok
-    c.self.invariant.0 (c.self.invariant.1 c.if-self.false) c.in_ok-reply.ensures.reply c.in_ok-reply.ensures.asked c.in_ok-reply.ensures.after in
+    c.self.invariant.0 (c.self.invariant.1 c.if-self.false) c.in_ok-reply.ensures.reply c.in_ok-reply.ensures.asked c.in_ok-reply.ensures.after (sends_from i.driver i.entries i.part c.term_in-term.result c.in-Some.entry c.in_ok-sends.sends c.in_ok-reply.field-0.sents _ c.in_ok-sends.ensures.value c.term_in-term.ensures.value (omega (arith, c.in-Some.ensures, c.len.ensures.value)) c.in_ok-reply.ensures.sents) in
     (s.0.0, λ _. s.0.1)
 
 pub returns-clause-ok : goal.returns-clause-ok
 returns-clause-ok g c =
-    let i = c.self.inside in let e = entry_of c.args.actor c.args.line c.args.request c.in_ok-reply.field-0.heard c.in_ok-reply.field-0.reply in
+    let i = c.self.inside in let e = entry_of c.args.actor c.in_ok-sends.sends c.args.line c.args.request c.in_ok-reply.field-0.heard c.in_ok-reply.field-0.reply in
     let s = served i.driver i.entries c.push.new.self e i.part c.step.new.part
     c.in_ok-push.ensures.ok
-    c.self.invariant.0 (c.self.invariant.1 c.if-self.false) c.in_ok-reply.ensures.reply c.in_ok-reply.ensures.asked c.in_ok-reply.ensures.after in
+    c.self.invariant.0 (c.self.invariant.1 c.if-self.false) c.in_ok-reply.ensures.reply c.in_ok-reply.ensures.asked c.in_ok-reply.ensures.after (sends_from i.driver i.entries i.part c.term_in-term.result c.in-Some.entry c.in_ok-sends.sends c.in_ok-reply.field-0.sents _ c.in_ok-sends.ensures.value c.term_in-term.ensures.value (omega (arith, c.in-Some.ensures, c.len.ensures.value)) c.in_ok-reply.ensures.sents) in
     record {
       entry = e;
       alive = sym (ap (λ v. v.dead) c.self.view_is) ∙ c.if-self.false;
@@ -33,5 +35,6 @@ returns-clause-ok g c =
       lives = refl;
       replays = s.0.1;
       legal = subst (λ v. IsLegalAfter v.driver (reverse v.entries) e) c.self.view_is s.1;
+      gated = subst (λ v. IsGated (reverse v.entries) e) c.self.view_is (gated i.driver (reverse i.entries) e c.self.invariant.0 s.1);
       leaves = λ h. leaves i.part c.step.new.part e c.in_ok-reply.ensures.reply c.in_ok-reply.ensures.after h ∙ ap (λ v. with_clock e v.part) c.self.view_is;
     }

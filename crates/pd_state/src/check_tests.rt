@@ -1,0 +1,375 @@
+// The checker, the patrol and the operators that they add, by scripts with typed answers.
+use crate::Cluster;
+use meta_store::Meta;
+use pd_types::{
+    Actor, Bytes, Downs, Epoch, Ids, Label, Labels, NoMemory, Peer, Peers, Region, RegionBeat,
+    Request, Role, StepMsg, Text,
+};
+use std::alloc::Global;
+use std::process::Abort;
+use std::test::Fail;
+
+// The number that a word spells, or 0.
+fn number(word: Option<&str>) -> u64 {
+    word.unwrap_or("").parse().unwrap_or(0)
+}
+
+// A text of a word.
+fn text(alloc: Global, word: &str) -> Result<Text, NoMemory> {
+    Ok(Text::of(String::from_str(alloc, word)?))
+}
+
+// The key that a word spells in hexadecimal; `-` is the empty one.
+fn key(alloc: Global, word: Option<&str>) -> Result<Bytes, NoMemory> {
+    let found = pd_lines::key(alloc, word.unwrap_or("-").as_bytes())?;
+    Ok(found.unwrap_or(Bytes::new(alloc)))
+}
+
+// The peer that a word `id:store:role` stands for.
+fn peer(word: &str) -> Peer {
+    let mut parts = word.split(':');
+    let id = number(parts.next());
+    let store = number(parts.next());
+    let role = match parts.next() {
+        Some("l") => Role::Learner,
+        _ => Role::Voter,
+    };
+    Peer { id, store, role }
+}
+
+// `beat NOW R START END CONF VER LEADER PEERS [pending=PEER]`, as a store reports a region.
+fn beat(alloc: Global, rest: &str) -> Result<Request, NoMemory> {
+    let mut words = rest.split(' ');
+    let moment = number(words.next());
+    let id = number(words.next());
+    let start = key(alloc, words.next())?;
+    let end = key(alloc, words.next())?;
+    let conf_ver = number(words.next());
+    let version = number(words.next());
+    let leader = number(words.next());
+    let mut peers = Peers::new(alloc);
+    for word in words.next().unwrap_or("").split(',') {
+        peers.push(peer(word))?;
+    }
+    let mut pending = Ids::new(alloc);
+    if let Some(word) = words.next() {
+        pending.push(number(word.strip_prefix("pending=")))?;
+    }
+    let epoch = Epoch { conf_ver, version };
+    let region = Region {
+        id,
+        start,
+        end,
+        epoch,
+        peers,
+    };
+    let beat = RegionBeat {
+        region,
+        leader,
+        down: Downs::new(alloc),
+        pending,
+    };
+    Ok(Request::Beat {
+        store: 1,
+        moment,
+        beat,
+    })
+}
+
+// `hello S NOW ADDRESS [zone=VALUE]`.
+fn hello(alloc: Global, rest: &str) -> Result<Request, NoMemory> {
+    let mut words = rest.split(' ');
+    let store = number(words.next());
+    let moment = number(words.next());
+    let address = text(alloc, words.next().unwrap_or(""))?;
+    let mut labels = Labels::new(alloc);
+    if let Some((key, value)) = words.next().unwrap_or("").split_once('=') {
+        labels.push(Label {
+            key: text(alloc, key)?,
+            value: text(alloc, value)?,
+        })?;
+    }
+    Ok(Request::Hello {
+        store,
+        moment,
+        address,
+        labels,
+    })
+}
+
+// `rule NOW JSON`.
+fn rule(alloc: Global, rest: &str) -> Result<Request, NoMemory> {
+    let (moment, json) = rest.split_once(' ').unwrap_or((rest, ""));
+    Ok(Request::Rule {
+        moment: number(Some(moment)),
+        json: Bytes::of(Vec::from_slice(alloc, json.as_bytes())?),
+    })
+}
+
+// The request of two numbers, the moment and another one; of `unrule` the id of a rule of group `pd`.
+fn small(alloc: Global, kind: &str, rest: &str) -> Result<Request, NoMemory> {
+    let (first, second) = rest.split_once(' ').unwrap_or((rest, ""));
+    let moment = number(Some(first));
+    let other = number(Some(second));
+    Ok(match kind {
+        "term" => Request::Term {
+            term: moment,
+            moment: other,
+        },
+        "alive" => Request::Alive {
+            store: moment,
+            moment: other,
+        },
+        "check" => Request::Check {
+            moment,
+            region: other,
+        },
+        "patrol" => Request::Patrol { moment, workers: 1 },
+        "unrule" => Request::Unrule {
+            moment,
+            group: text(alloc, "pd")?,
+            id: text(alloc, second)?,
+        },
+        _ => Request::Retire,
+    })
+}
+
+// The request that a line stands for.
+fn request(alloc: Global, line: &str) -> Result<Request, NoMemory> {
+    let (kind, rest) = line.split_once(' ').unwrap_or((line, ""));
+    match kind {
+        "beat" => beat(alloc, rest),
+        "hello" => hello(alloc, rest),
+        "rule" => rule(alloc, rest),
+        _ => small(alloc, kind, rest),
+    }
+}
+
+// A cluster of driver 1 and its metadata.
+#[derive(Drop)]
+struct Scene {
+    cluster: Cluster,
+    meta: Meta,
+}
+
+impl Scene {
+    fn new(alloc: Global) -> Scene {
+        Scene {
+            cluster: Cluster::new(alloc, 1),
+            meta: Meta::new(alloc),
+        }
+    }
+
+    // Serves each line, whose answer stands behind ` => `.
+    fn play(&mut self, rt: &impl Abort, alloc: Global, lines: &str) -> Result<(), Fail> {
+        for line in lines.lines() {
+            let (asked, want) = line.split_once(" => ").unwrap_or((line, ""));
+            let request = request(alloc, asked)?;
+            let reply = self
+                .cluster
+                .serve(Actor::Driver(1), 7, request, &mut self.meta)?;
+            let reply = format!(in alloc; "{reply}")?;
+            assert_eq!(rt; reply.as_str(), want, "at {line}");
+        }
+        Ok(())
+    }
+
+    // The messages that were sent, a line for each.
+    fn sends(&self, alloc: Global) -> Result<String, Fail> {
+        let mut text = String::new(alloc);
+        for entry in self.cluster.journal().as_slice().iter() {
+            for message in entry.sends.as_slice().iter() {
+                let StepMsg {
+                    driver,
+                    term,
+                    entry,
+                    region,
+                    to,
+                    step,
+                } = *message;
+                let line = format!(in alloc;
+                    "{driver} to {to} term {term} entry {entry} region {region} {step}\n"
+                )?;
+                text.push_str(line.as_str())?;
+            }
+        }
+        Ok(text)
+    }
+}
+
+// A Down peer is replaced: the misfit numbers are 2, 1 and 0. The worked row of repair.
+const REPAIR: &str = "\
+term 1 1000 => term 1 stores 0 rules 1
+hello 1 1000 a1 zone=z1 => store put
+hello 2 1000 a2 zone=z2 => store put
+hello 3 1000 a3 zone=z3 => store put
+hello 4 1000 a4 zone=z3 => store put
+beat 1000 7 - - 1 1 11 11:1:v,12:2:v,13:3:v => accepted removed 0 none
+alive 1 1801001 => alive
+alive 2 1801001 => alive
+alive 4 1801001 => alive
+check 1801001 7 => plan add-voter from 2 to 1 send add-learner peer 1000001 store 4
+beat 1801002 7 - - 2 1 11 11:1:v,12:2:v,13:3:v,1000001:4:l => accepted removed 0 send promote-learner peer 1000001 store 4
+beat 1801003 7 - - 3 1 11 11:1:v,12:2:v,13:3:v,1000001:4:v => accepted removed 0 done
+check 1801003 7 => plan remove from 1 to 0 send remove-peer peer 13 store 3
+beat 1801004 7 - - 4 1 11 11:1:v,12:2:v,1000001:4:v => accepted removed 0 done
+check 1801004 7 => no-fault
+";
+
+// The messages of that row, by hand: to the leader's store, with the place of the entry that sent it.
+const REPAIR_SENDS: &str = "\
+1 to 1 term 1 entry 10 region 7 add-learner peer 1000001 store 4
+1 to 1 term 1 entry 11 region 7 promote-learner peer 1000001 store 4
+1 to 1 term 1 entry 13 region 7 remove-peer peer 13 store 3
+";
+
+// Two voters are missing and a learner is on a Down store: three misfits, of which each plan takes one,
+// carried out by the heartbeats that answer its steps.
+const THREE_MISFITS: &str = "\
+term 1 1000 => term 1 stores 0 rules 1
+hello 1 1000 a1 => store put
+hello 2 1000 a2 => store put
+hello 3 1000 a3 => store put
+hello 9 1000 a9 => store put
+beat 1000 7 - - 1 1 11 11:1:v,12:9:l => accepted removed 0 none
+alive 1 1801001 => alive
+alive 2 1801001 => alive
+alive 3 1801001 => alive
+check 1801001 7 => plan add-voter from 3 to 2 send add-learner peer 1000001 store 2
+beat 1801001 7 - - 2 1 11 11:1:v,12:9:l,1000001:2:l => accepted removed 0 send promote-learner peer 1000001 store 2
+beat 1801001 7 - - 3 1 11 11:1:v,12:9:l,1000001:2:v => accepted removed 0 done
+check 1801001 7 => plan add-voter from 2 to 1 send add-learner peer 1000002 store 3
+beat 1801001 7 - - 4 1 11 11:1:v,12:9:l,1000001:2:v,1000002:3:l => accepted removed 0 send promote-learner peer 1000002 store 3
+beat 1801001 7 - - 5 1 11 11:1:v,12:9:l,1000001:2:v,1000002:3:v => accepted removed 0 done
+check 1801001 7 => plan remove from 1 to 0 send remove-peer peer 12 store 9
+beat 1801001 7 - - 6 1 11 11:1:v,1000001:2:v,1000002:3:v => accepted removed 0 done
+check 1801001 7 => no-fault
+";
+
+// Equal totals and no fit, the worked row of two rules that both ask for zone z1.
+const NO_FIT: &str = r#"term 1 1000 => term 1 stores 0 rules 1
+hello 1 1000 a1 zone=z1 => store put
+hello 2 1000 a2 zone=z2 => store put
+rule 1000 {"group_id":"pd","id":"A","role":"voter","count":1,"label_constraints":[{"key":"zone","op":"in","values":["z1"]}]} => rule set
+rule 1000 {"group_id":"pd","id":"B","role":"voter","count":1,"label_constraints":[{"key":"zone","op":"in","values":["z1"]}]} => rule set
+unrule 1000 default => rule removed
+beat 1000 7 - - 1 1 11 11:1:v,12:2:v => accepted removed 0 none
+check 1000 7 => no-plan from 2
+"#;
+
+// A border inside the region comes before all else, the worked row of rules.
+const SPLIT: &str = r#"term 1 1000 => term 1 stores 0 rules 1
+hello 1 1000 a1 => store put
+hello 2 1000 a2 => store put
+hello 3 1000 a3 => store put
+beat 1000 7 - - 1 1 11 11:1:v,12:2:v,13:3:v => accepted removed 0 none
+rule 1000 {"group_id":"pd","id":"x","role":"voter","count":1,"start_key":"40","color":"red"} => rule set
+check 1000 7 => needs-split 40
+check 1000 8 => no-region
+unrule 1000 x => rule removed
+check 1000 7 => no-fault
+"#;
+
+// Eight regions of three voters each that fit, the worked row of a patrol after the opening lines of a
+// made script: five stores in three zones.
+const EIGHT_REGIONS: &str = "\
+term 1 1000 => term 1 stores 0 rules 1
+hello 1 1000 s1 zone=z1 => store put
+hello 2 1000 s2 zone=z1 => store put
+hello 3 1000 s3 zone=z2 => store put
+hello 4 1000 s4 zone=z2 => store put
+hello 5 1000 s5 zone=z3 => store put
+beat 1000 1 - 20 1 1 11 11:1:v,12:3:v,13:5:v => accepted removed 0 none
+beat 1000 2 20 40 1 1 21 21:1:v,22:3:v,23:5:v => accepted removed 0 none
+beat 1000 3 40 60 1 1 31 31:1:v,32:3:v,33:5:v => accepted removed 0 none
+beat 1000 4 60 80 1 1 41 41:1:v,42:3:v,43:5:v => accepted removed 0 none
+beat 1000 5 80 a0 1 1 51 51:1:v,52:3:v,53:5:v => accepted removed 0 none
+beat 1000 6 a0 c0 1 1 61 61:1:v,62:3:v,63:5:v => accepted removed 0 none
+beat 1000 7 c0 e0 1 1 71 71:1:v,72:3:v,73:5:v => accepted removed 0 none
+beat 1000 8 e0 - 1 1 81 81:1:v,82:3:v,83:5:v => accepted removed 0 none
+patrol 1001 => patrol regions 8 ok 8 split 0 plan 0 no-plan 0 added 0 buried 0
+";
+
+// A patrol says of each region what a check says of it, and passes over the region that has an
+// operator and the one whose plan's steps a store limit refuses. Of three regions the first fits and
+// the others lack a voter: the first new peer goes to store 3, as the plan of the check does.
+const PATROL: &str = "\
+term 1 1000 => term 1 stores 0 rules 1
+hello 1 1000 s1 => store put
+hello 2 1000 s2 => store put
+hello 3 1000 s3 => store put
+beat 1000 1 - 20 1 1 11 11:1:v,12:2:v,13:3:v => accepted removed 0 none
+beat 1000 2 20 40 1 1 21 21:1:v,22:2:v => accepted removed 0 none
+beat 1000 3 40 - 1 1 31 31:1:v,32:2:v,1000002:9:l => accepted removed 0 none
+check 1000 1 => no-fault
+check 1000 2 => plan add-voter from 1 to 0 send add-learner peer 1000001 store 3
+check 1000 2 => plan add-voter from 1 to 0 busy 2
+patrol 1000 => patrol regions 3 ok 1 split 0 plan 2 no-plan 0 added 1 buried 0
+beat 1000 3 40 - 1 1 31 31:1:v,32:2:v,1000002:9:l => accepted removed 0 send add-learner peer 1000003 store 3
+";
+
+// What an operator's clock and its region's end come to: Created ones expire after 3 seconds, an
+// epoch that moved cancels, and the operators of a displaced region are gone. Heartbeats go by the
+// clock, so that a moment of the past is late too.
+const LIVES: &str = "\
+term 1 1000 => term 1 stores 0 rules 1
+hello 1 1000 s1 => store put
+hello 2 1000 s2 => store put
+hello 3 1000 s3 => store put
+beat 1000 7 - - 1 1 11 11:1:v,12:2:v => accepted removed 0 none
+check 1000 7 => plan add-voter from 1 to 0 send add-learner peer 1000001 store 3
+alive 1 601001 => alive
+alive 2 601001 => alive
+beat 1000 7 - - 1 1 11 11:1:v,12:2:v => accepted removed 0 ended Timeout
+beat 1000 7 - - 1 1 11 11:1:v,12:2:v => accepted removed 0 none
+alive 3 601001 => alive
+check 601001 7 => plan add-voter from 1 to 0 send add-learner peer 1000002 store 3
+beat 601001 7 - - 3 1 11 11:1:v,12:2:v => accepted removed 0 ended Canceled
+check 601001 7 => plan add-voter from 1 to 0 send add-learner peer 1000003 store 3
+beat 601001 8 - - 1 2 81 81:1:v,82:2:v => accepted removed 1 none
+beat 601001 7 - - 3 3 11 11:1:v,12:2:v => accepted removed 1 none
+";
+
+// A learner without a majority of live voters is held, and its operator expires.
+const HELD: &str = "\
+term 1 1000 => term 1 stores 0 rules 1
+hello 1 1000 s1 => store put
+hello 2 1000 s2 => store put
+hello 3 1000 s3 => store put
+beat 1000 7 - - 1 1 11 11:1:v,12:2:v,13:3:l => accepted removed 0 none
+alive 3 21001 => alive
+alive 1 21001 => alive
+check 21001 7 => plan promote from 2 to 0 held before live 1 of 2
+beat 24001 7 - - 1 1 11 11:1:v,12:2:v,13:3:l => accepted removed 0 held before live 1 of 2
+beat 24002 7 - - 1 1 11 11:1:v,12:2:v,13:3:l => accepted removed 0 ended Expired
+";
+
+// Each script by itself.
+#[test]
+fn checks_and_patrols_are_answered(rt: HostRuntime) -> Result<(), Fail> {
+    let alloc = rt.alloc();
+    let scripts = [
+        REPAIR,
+        THREE_MISFITS,
+        NO_FIT,
+        SPLIT,
+        EIGHT_REGIONS,
+        PATROL,
+        LIVES,
+        HELD,
+    ];
+    for lines in scripts {
+        Scene::new(alloc).play(&rt, alloc, lines)?;
+    }
+    Ok(())
+}
+
+#[test]
+fn the_steps_of_a_repair_are_sent(rt: HostRuntime) -> Result<(), Fail> {
+    let alloc = rt.alloc();
+    let mut scene = Scene::new(alloc);
+    scene.play(&rt, alloc, REPAIR)?;
+    let sends = scene.sends(alloc)?;
+    assert_eq!(rt; sends.as_str(), REPAIR_SENDS);
+    Ok(())
+}
