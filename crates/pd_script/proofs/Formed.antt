@@ -14,9 +14,10 @@ use Rattle.pd_types.specs.declared.region.Peer.{Peer}
 use Rattle.pd_types.specs.declared.region.RegionBeat.{RegionBeat}
 use Rattle.pd_types.specs.declared.region.Role.{Role}
 use Rattle.pd_types.specs.declared.region.Role.TheVariants.{Voter, Learner}
-use Rattle.pd_types.specs.declared.request.Request.TheVariants.{Hello, Alive, Beat, Rule, Unrule}
+use Rattle.pd_types.specs.declared.request.Request.TheVariants.{Hello, Alive, Beat, Rule, Unrule, Check, Patrol}
 use Rattle.pd_types.specs.declared.store.Label.{Label}
 use Rattle.pd_script.specs.Asks.{alive_of, asked_of, beat_of, greeted, head_of, hello_of, labels_or, region_of, reported, troubled_of}
+use Rattle.pd_script.specs.CheckLines.{check_of, patrol_of}
 use Rattle.pd_script.specs.Formed.{IsAsked, IsDown, IsId, IsPeer, IsReport, IsSpoken}
 use Rattle.pd_script.specs.Forms.{Item, address_form, and_then, before_colon, down_of, downs_from, downs_of, ids_from, in_front, is_colon, items_of, key_form, peer_of, peers_from, peers_of, pending_of, role_of, spelled_or, unless_colon}
 use Rattle.pd_script.specs.Places.{read_place}
@@ -25,11 +26,11 @@ use Rattle.pd_script.specs.Words.{behind_word, trimmed, words}
 use Rattle.pd_script.specs.declared.ask.Asked.{Asked}
 use Rattle.pd_script.specs.declared.ask.Head.{Head}
 use Rattle.pd_script.specs.declared.ask.Troubled.{Troubled}
-use Rattle.pd_script.specs.declared.place.Place.TheVariants.{Driver, Id, Moment, Seconds, Version}
+use Rattle.pd_script.specs.declared.place.Place.TheVariants.{Driver, Id, Moment, Seconds, Version, Workers}
 use Rattle.pd_script.specs.declared.refusal.Reason.{Reason}
 use Rattle.pd_script.specs.declared.refusal.Reason.TheVariants.{BadWord, ExtraWord, MissingWord}
 use Rattle.pd_script.specs.declared.request_verb.RequestVerb.{RequestVerb}
-use Rattle.pd_script.specs.declared.request_verb.RequestVerb.TheVariants.{Hello as ToHello, Alive as ToAlive, Beat as ToBeat, Rule as ToRule, Unrule as ToUnrule}
+use Rattle.pd_script.specs.declared.request_verb.RequestVerb.TheVariants.{Hello as ToHello, Alive as ToAlive, Beat as ToBeat, Rule as ToRule, Unrule as ToUnrule, Check as ToCheck, Patrol as ToPatrol}
 use Rattle.pd_script.proofs.Results.{InPlace, in_place, no_fine, same_ok, then_read}
 
 -- what a test lets through
@@ -301,9 +302,34 @@ unrule_ok (driver ∷ moment ∷ group ∷ id ∷ []) a is =
     (record { pos = read_driver driver d.0 d.1; asked = (read_moment moment m.0 m.1, name_ok group g.0 g.1, name_ok id i.0 i.1) })
 unrule_ok (d ∷ m ∷ g ∷ i ∷ more ∷ rest) a is = no_fine ExtraWord a is
 
+check_ok : (ws : List (List ℕ)) (a : Asked) → check_of ws ≡ Ok a → IsFine a
+check_ok [] a is = no_fine MissingWord a is
+check_ok (d ∷ []) a is = no_fine MissingWord a is
+check_ok (d ∷ m ∷ []) a is = no_fine MissingWord a is
+check_ok (driver ∷ moment ∷ region ∷ []) a is =
+    let d = then_read (read_place Driver driver) _ a is in
+    let m = then_read (read_place Moment moment) _ a d.2 in
+    let r = then_read (read_place Id region) _ a m.2 in
+    subst IsFine (same_ok (record { driver = d.0; request = Check m.0 r.0 }) a r.2) (record { pos = read_driver driver d.0 d.1; asked = (read_moment moment m.0 m.1, read_id region r.0 r.1) })
+check_ok (d ∷ m ∷ r ∷ more ∷ rest) a is = no_fine ExtraWord a is
+
+patrol_ok : (ws : List (List ℕ)) (a : Asked) → patrol_of ws ≡ Ok a → IsFine a
+patrol_ok [] a is = no_fine MissingWord a is
+patrol_ok (d ∷ []) a is = no_fine MissingWord a is
+patrol_ok (d ∷ m ∷ []) a is = no_fine MissingWord a is
+patrol_ok (driver ∷ moment ∷ workers ∷ []) a is =
+    let d = then_read (read_place Driver driver) _ a is in
+    let m = then_read (read_place Moment moment) _ a d.2 in
+    let w = then_read (read_place Workers workers) _ a m.2 in
+    let range = in_place Workers (number_of workers) w.0 w.1 in
+    subst IsFine (same_ok (record { driver = d.0; request = Patrol m.0 w.0 }) a w.2) (record { pos = read_driver driver d.0 d.1; asked = (read_moment moment m.0 m.1, omega (arith, range.low), range.high) })
+patrol_ok (d ∷ m ∷ w ∷ more ∷ rest) a is = no_fine ExtraWord a is
+
 pub asked_ok : (verb : RequestVerb) (rest : List ℕ) (a : Asked) → asked_of verb rest ≡ Ok a → IsFine a
 asked_ok ToHello rest a is = hello_ok (words rest) a is
 asked_ok ToAlive rest a is = alive_ok (words rest) a is
 asked_ok ToBeat rest a is = beat_ok (words rest) a is
 asked_ok ToRule rest a is = rule_ok (words rest) (trimmed (behind_word (behind_word rest))) a is
 asked_ok ToUnrule rest a is = unrule_ok (words rest) a is
+asked_ok ToCheck rest a is = check_ok (words rest) a is
+asked_ok ToPatrol rest a is = patrol_ok (words rest) a is

@@ -13,7 +13,7 @@ use Rattle.pd_script.specs.Lawful.{AreLawful, IsFormed, IsInRange, IsLawful, IsL
 use Rattle.pd_script.specs.Places.{most, read_place}
 use Rattle.pd_script.specs.Says.{Says, says}
 use Rattle.pd_script.specs.Scripts.{act_by, act_of, broken_by, client_of, driver_of, greatest, greatest_in, if_client, if_driver, line_of, script_by, script_of, unless_broken}
-use Rattle.pd_script.specs.Table.{is_misplaced, known_in, row, verb_of}
+use Rattle.pd_script.specs.Table.{is_misplaced, is_unknown, known_in, row, verb_of}
 use Rattle.pd_script.specs.Words.{RawLine, behind_word, raw_lines, words}
 use Rattle.pd_script.specs.declared.limits.Broken.{Broken}
 use Rattle.pd_script.specs.declared.place.Place.{Place}
@@ -104,6 +104,11 @@ placed_read : (mode : Mode) (first : Bool) (ws : List (List ℕ)) (verb : Verb) 
 placed_read mode first ws verb e true placed is = no_fine Misplaced e is
 placed_read mode first ws verb e false placed is = with_read mode first verb (numbers_of (row verb).places ws) e placed (λ n same. numbers_in (row verb).places ws n same) is
 
+known_read : (mode : Mode) (first : Bool) (ws : List (List ℕ)) (verb : Verb) (e : Event) (unknown : Bool)
+    → cond {A = Result Event Reason} unknown (Err UnknownWord) (cond {A = Result Event Reason} (is_misplaced mode first (row verb).standing) (Err Misplaced) (with_numbers verb (numbers_of (row verb).places ws))) ≡ Ok e → IsRead mode first e
+known_read mode first ws verb e true is = no_fine UnknownWord e is
+known_read mode first ws verb e false is = placed_read mode first ws verb e (is_misplaced mode first (row verb).standing) refl is
+
 request_read : (first : Bool) (r : Result Asked Reason) (e : Event) → ((a : Asked) → r ≡ Ok a → IsFine a) → with_request r ≡ Ok e → IsRead Replay first e
 request_read first (Err reason) e fine is = no_fine reason e is
 request_read first (Ok a) e fine is = let one = fine a refl in subst (λ (x : Event). IsRead Replay first x) (same_ok (Ask a.driver a.request) e is) (one.pos, one.asked, refl)
@@ -115,7 +120,7 @@ ask_read Replay first rest (Some verb) e is = request_read first (asked_of verb 
 
 verb_read : (mode : Mode) (first : Bool) (rest : List ℕ) (o : Option Verb) (other : Option RequestVerb) (e : Event) → by_verb mode first rest o (known_in mode other) ≡ Ok e → IsRead mode first e
 verb_read mode first rest None other e is = ask_read mode first rest other e is
-verb_read mode first rest (Some verb) other e is = placed_read mode first (words rest) verb e (is_misplaced mode first (row verb).standing) refl is
+verb_read mode first rest (Some verb) other e is = known_read mode first (words rest) verb e (is_unknown mode (row verb).standing) is
 
 event_read : (mode : Mode) (first : Bool) (ws : List (List ℕ)) (rest : List ℕ) (e : Event) → event_of mode first ws rest ≡ Ok e → IsRead mode first e
 event_read mode first [] rest e is = no_fine UnknownWord e is

@@ -13,7 +13,7 @@ use Rattle.pd_script.specs.Grammar.{AtFault, and_event, and_line, events_from, r
 use Rattle.pd_script.specs.Lawful.{AreAtMost, IsGreatest, actor_in, clients_named, drivers_named, speaking}
 use Rattle.pd_types.specs.declared.oracle.Actor.{Actor}
 use Rattle.pd_types.specs.declared.oracle.Actor.TheVariants.{Driver as ByDriver, Client as ByClient, Store as ByStore}
-use Rattle.pd_script.specs.Scripts.{act_by, act_of, acting, actor_by, actor_of, client_of, driver_of, greatest, greatest_in, if_client, if_driver, is_lead, leads_in, line_of, asker, store_in, store_of, stores_from, stores_in, with_stores}
+use Rattle.pd_script.specs.Scripts.{act_by, act_of, actor_by, actor_of, client_of, driver_of, greatest, greatest_in, if_client, if_driver, is_lead, leads_in, line_of, asker, store_by, store_in, store_of, stores_from, stores_in, with_stores}
 use Rattle.pd_script.specs.Says.{Says, named_client, named_driver}
 use Rattle.pd_script.specs.Table.{row}
 use Rattle.pd_script.specs.Words.{RawLine}
@@ -219,22 +219,15 @@ asker_has known (ByDriver driver) = tt
 asker_has known (ByClient client) = tt
 asker_has known (ByStore store) = (inserted store known, tt)
 
--- no store acts in a line of the oracle
-acting_silent : (p : Place) (n : ℕ) → flat_map store_in (option_to_list (acting p n)) ≡ []
-acting_silent Driver n = refl
-acting_silent Client n = refl
-acting_silent _ n = refl
+actor_has : (known : List ℕ) (o : Option Actor) → AllByRecursion (Contains (with_stores known (store_by o))) (flat_map store_in (option_to_list o))
+actor_has known None = tt
+actor_has known (Some actor) = asker_has known actor
 
-places_silent : (places : Places) (n : Numbers) → flat_map store_in (option_to_list (actor_by places n)) ≡ []
-places_silent (One p) n = acting_silent p n.first
-places_silent (Two p q) n = acting_silent p n.first
-places_silent (Three p q r) n = acting_silent p n.first
-
-step_silent : (verb : Verb) (n : Numbers) → speaking (act_by verb n) ≡ []
-step_silent verb n = ap (λ (s : Says). flat_map store_in (option_to_list s.actor)) (same_says verb n) ∙ places_silent (row verb).places n
+step_speaks : (verb : Verb) (n : Numbers) → speaking (act_by verb n) ≡ flat_map store_in (option_to_list (actor_by (row verb).places n))
+step_speaks verb n = ap (λ (s : Says). flat_map store_in (option_to_list s.actor)) (same_says verb n)
 
 event_has : (known : List ℕ) (e : Event) → AllByRecursion (Contains (with_stores known (store_of e))) (speaking (act_of e))
-event_has known (Step verb numbers) = subst (λ (l : List ℕ). AllByRecursion (Contains known) l) (sym (step_silent verb numbers)) tt
+event_has known (Step verb numbers) = subst (λ (l : List ℕ). AllByRecursion (Contains (with_stores known (store_of (Step verb numbers)))) l) (sym (step_speaks verb numbers)) (actor_has known (actor_by (row verb).places numbers))
 event_has known (Ask driver request) = asker_has known (asker driver request)
 
 all_have : (known more numbers : List ℕ) → ((y : ℕ) → Contains known y → Contains more y) → AllByRecursion (Contains known) numbers → AllByRecursion (Contains more) numbers

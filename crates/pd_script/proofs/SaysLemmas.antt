@@ -1,6 +1,6 @@
--- A line of the oracle says what its row and its numbers do.
+-- A line that is no request says what its row and its numbers do.
 use Rattle.std.proofs.Common.{◌≡◌, ℕ, List, [], ◌∷◌, refl}
-use Rattle.pd_script.specs.Says.{Says, of_oracle, says}
+use Rattle.pd_script.specs.Says.{Says, no_request, says}
 use Rattle.pd_script.specs.Scripts.{act_by, actor_by}
 use Rattle.pd_script.specs.Table.{Row, row}
 use Rattle.pd_script.specs.declared.place.Place.{Place}
@@ -17,7 +17,7 @@ placed_numbers (Two p q) n = (p, n.first) ∷ (q, n.second) ∷ []
 placed_numbers (Three p q r) n = (p, n.first) ∷ (q, n.second) ∷ (r, n.third) ∷ []
 
 abbrev pub said_by : Row → Numbers → Says
-said_by one n = of_oracle one.standing (actor_by one.places n) (placed_numbers one.places n)
+said_by one n = no_request one.standing (actor_by one.places n) (placed_numbers one.places n)
 
 pub same_says : (verb : Verb) (n : Numbers) → says (act_by verb n) ≡ said_by (row verb) n
 same_says Cell n = refl

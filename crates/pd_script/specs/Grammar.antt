@@ -3,7 +3,7 @@ use Rattle.std.specs.Prelude.{ℕ, ◌+◌, List, [], ◌∷◌, get_or, Bool, t
 use Rattle.std.specs.List.{list_any}
 use Rattle.pd_script.specs.Asks.{asked_of, request_verb_of}
 use Rattle.pd_script.specs.Places.{read_place}
-use Rattle.pd_script.specs.Table.{is_misplaced, known_in, row, verb_of}
+use Rattle.pd_script.specs.Table.{is_misplaced, is_unknown, known_in, row, verb_of}
 use Rattle.pd_script.specs.Words.{RawLine, behind_word, raw_lines, words}
 use Rattle.pd_script.specs.declared.ask.Asked.{Asked}
 use Rattle.pd_script.specs.declared.place.Place.{Place}
@@ -72,11 +72,14 @@ abbrev pub by_request_verb : List ℕ → Option RequestVerb → Result Event Re
 by_request_verb rest None = Err UnknownWord
 by_request_verb rest (Some verb) = with_request (asked_of verb rest)
 
--- what a line of the oracle says
+-- what a line says that is no request
 abbrev pub step_of : Mode → Bool → Verb → List (List ℕ) → Result Event Reason
-step_of mode first verb ws = if is_misplaced mode first (row verb).standing then Err Misplaced else with_numbers verb (numbers_of (row verb).places ws)
+step_of mode first verb ws =
+    if is_unknown mode (row verb).standing then Err UnknownWord
+    else if is_misplaced mode first (row verb).standing then Err Misplaced
+    else with_numbers verb (numbers_of (row verb).places ws)
 
--- what a line with this first word says, by what stands behind it: one of the oracle's, or else one that asks a cluster
+-- what a line with this first word says, by what stands behind it: one that is no request, or else a request
 abbrev pub by_verb : Mode → Bool → List ℕ → Option Verb → Option RequestVerb → Result Event Reason
 by_verb mode first rest None other = by_request_verb rest other
 by_verb mode first rest (Some verb) other = step_of mode first verb (words rest)

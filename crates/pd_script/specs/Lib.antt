@@ -1,4 +1,5 @@
 pub mod Asks
+pub mod CheckLines
 pub mod Formed
 pub mod Forms
 pub mod Grammar

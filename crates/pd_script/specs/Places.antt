@@ -2,7 +2,7 @@
 use Rattle.std.specs.Prelude.{ℕ, ◌-◌, ◌^◌, List, ◌&&◌, nat_le, Option, Some, None, Result, Ok, Err, if◌then◌else◌}
 use Rattle.pd_lines.specs.Numeral.{number_of}
 use Rattle.pd_script.specs.declared.place.Place.{Place}
-use Rattle.pd_script.specs.declared.place.Place.TheVariants.{Driver, Client, Moment, Count, Saved, Term, Id, Version, Seconds}
+use Rattle.pd_script.specs.declared.place.Place.TheVariants.{Driver, Client, Moment, Count, Saved, Term, Id, Version, Seconds, Workers}
 use Rattle.pd_script.specs.declared.refusal.Reason.{Reason}
 use Rattle.pd_script.specs.declared.refusal.Reason.TheVariants.{BadNumber, OutOfRange}
 
@@ -17,6 +17,7 @@ least Term = 0
 least Id = 1
 least Version = 0
 least Seconds = 0
+least Workers = 1
 
 -- the greatest number of the place
 abbrev pub most : Place → ℕ
@@ -29,6 +30,7 @@ most Term = 262143
 most Id = 2 ^ 63 - 1
 most Version = 2 ^ 63 - 1
 most Seconds = 2 ^ 32 - 1
+most Workers = 16
 
 -- the number, where it is within the place's range
 abbrev pub within : Place → Option ℕ → Result ℕ Reason

@@ -6,16 +6,16 @@ use Rattle.std.specs.Ordering.{nat_cmp}
 use Rattle.pd_types.specs.declared.oracle.Actor.{Actor}
 use Rattle.pd_types.specs.declared.oracle.Actor.TheVariants.{Driver as ByDriver, Client as ByClient, Store as ByStore}
 use Rattle.pd_types.specs.declared.request.Request.{Request}
-use Rattle.pd_types.specs.declared.request.Request.TheVariants.{Hello, Alive, Beat, Rule, Unrule, Term as BeginTerm, Retire}
+use Rattle.pd_types.specs.declared.request.Request.TheVariants.{Hello, Alive, Beat, Rule, Unrule, Check, Patrol, Term as BeginTerm, Retire}
 use Rattle.pd_script.specs.Grammar.{AtFault, events_of}
 use Rattle.pd_script.specs.Table.{row}
 use Rattle.pd_script.specs.declared.act.Act.{Act}
-use Rattle.pd_script.specs.declared.act.Act.TheVariants.{Cell as CellAct, Lead as LeadAct, Tick as TickAct, Resign as ResignAct, Take as TakeAct, Tell as TellAct, Hear as HearAct, Read as ReadAct, Campaign as CampaignAct, Save as SaveAct, Raise as RaiseAct, Publish as PublishAct, Probe as ProbeAct, Look as LookAct, Arm as ArmAct, Draw as DrawAct, Ask as AskAct}
+use Rattle.pd_script.specs.declared.act.Act.TheVariants.{Cell as CellAct, Lead as LeadAct, Tick as TickAct, Resign as ResignAct, Take as TakeAct, Tell as TellAct, Hear as HearAct, Read as ReadAct, Campaign as CampaignAct, Save as SaveAct, Raise as RaiseAct, Publish as PublishAct, Probe as ProbeAct, Look as LookAct, Arm as ArmAct, Draw as DrawAct, Ask as AskAct, Pop as PopAct}
 use Rattle.pd_script.specs.declared.act.Line.{Line}
 use Rattle.pd_script.specs.declared.limits.Broken.{Broken}
 use Rattle.pd_script.specs.declared.limits.TheConstants.{MAX_CLIENTS, MAX_DRIVERS, MAX_EVENTS, MAX_LEADS, MAX_STORES}
 use Rattle.pd_script.specs.declared.place.Place.{Place}
-use Rattle.pd_script.specs.declared.place.Place.TheVariants.{Driver, Client}
+use Rattle.pd_script.specs.declared.place.Place.TheVariants.{Driver, Client, Id}
 use Rattle.pd_script.specs.declared.refusal.Limited.TheVariants.{Events, Drivers, Clients, Stores, Leads}
 use Rattle.pd_script.specs.declared.refusal.ScriptRefusal.{ScriptRefusal}
 use Rattle.pd_script.specs.declared.refusal.ScriptRefusal.TheVariants.{Fault, Limit}
@@ -28,7 +28,7 @@ use Rattle.pd_script.specs.declared.verb.Numbers.{Numbers}
 use Rattle.pd_script.specs.declared.verb.Places.{Places}
 use Rattle.pd_script.specs.declared.verb.Places.TheVariants.{One, Two, Three}
 use Rattle.pd_script.specs.declared.verb.Verb.{Verb}
-use Rattle.pd_script.specs.declared.verb.Verb.TheVariants.{Cell, Lead, Tick, Resign, Take, Tell, Hear, Read, Campaign, Save, Raise, Publish, Probe, Look, Arm, Draw}
+use Rattle.pd_script.specs.declared.verb.Verb.TheVariants.{Cell, Lead, Tick, Resign, Take, Tell, Hear, Read, Campaign, Save, Raise, Publish, Probe, Look, Arm, Draw, Pop}
 
 -- what a line does, by its first word and its numbers
 abbrev pub act_by : Verb → Numbers → Act
@@ -48,14 +48,16 @@ act_by Probe n = ProbeAct n.first n.second
 act_by Look n = LookAct n.first n.second
 act_by Arm n = ArmAct n.first n.second
 act_by Draw n = DrawAct n.first
+act_by Pop n = PopAct n.first n.second
 
--- the actor of a place
+-- the actor of a place; an id that stands first is a store's
 abbrev pub acting : Place → ℕ → Option Actor
 acting Driver n = Some (ByDriver n)
 acting Client n = Some (ByClient n)
+acting Id n = Some (ByStore n)
 acting _ n = None
 
--- who acts: the driver or the client that stands first
+-- who acts: the driver, the client or the store that stands first
 abbrev pub actor_by : Places → Numbers → Option Actor
 actor_by (One p) n = acting p n.first
 actor_by (Two p q) n = acting p n.first
@@ -84,6 +86,8 @@ asker driver (Alive store moment) = ByStore store
 asker driver (Beat store moment beat) = ByStore store
 asker driver (Rule moment json) = ByDriver driver
 asker driver (Unrule moment group id) = ByDriver driver
+asker driver (Check moment region) = ByDriver driver
+asker driver (Patrol moment workers) = ByDriver driver
 asker driver (BeginTerm term moment) = ByDriver driver
 asker driver Retire = ByDriver driver
 
@@ -103,15 +107,19 @@ abbrev pub client_of : Event → ℕ
 client_of (Step verb numbers) = greatest_in if_client (row verb).places numbers
 client_of (Ask driver request) = 0
 
--- the store that speaks in an event, where there is one
-abbrev pub store_of : Event → List ℕ
-store_of (Step verb numbers) = []
-store_of (Ask driver request) = store_in (asker driver request)
-
 -- who acts in an event
 abbrev pub actor_of : Event → Option Actor
 actor_of (Step verb numbers) = actor_by (row verb).places numbers
 actor_of (Ask driver request) = Some (asker driver request)
+
+-- the store that acts, where one does
+abbrev pub store_by : Option Actor → List ℕ
+store_by None = []
+store_by (Some actor) = store_in actor
+
+-- the store that acts in an event, where one does
+abbrev pub store_of : Event → List ℕ
+store_of e = store_by (actor_of e)
 
 -- what an event does
 abbrev pub act_of : Event → Act

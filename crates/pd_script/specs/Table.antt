@@ -1,19 +1,19 @@
--- The lines of a script: the first word, what stands behind it, and where the line may stand. A line's actor is the driver or
--- the client that it names first (own choice).
+-- The lines of a script: the first word, what stands behind it, and where the line may stand. A line's actor is the driver,
+-- the client or the store that it names first (own choice).
 use Rattle.std.specs.Prelude.{ℕ, List, codes, Option, None, Bool, true, false}
 use Rattle.std.specs.List.{find}
 use Rattle.std.specs.Str.{bytes_eq}
-use Rattle.pd_script.specs.declared.place.Place.TheVariants.{Driver, Client, Moment, Count, Saved, Term}
+use Rattle.pd_script.specs.declared.place.Place.TheVariants.{Driver, Client, Moment, Count, Saved, Term, Id}
 use Rattle.pd_script.specs.declared.script.Mode.{Mode}
 use Rattle.pd_script.specs.declared.script.Mode.TheVariants.{Replay, Run}
 use Rattle.pd_script.specs.declared.verb.Places.{Places}
 use Rattle.pd_script.specs.declared.verb.Places.TheVariants.{One, Two, Three}
 use Rattle.pd_script.specs.declared.verb.Standing.{Standing}
-use Rattle.pd_script.specs.declared.verb.Standing.TheVariants.{Anywhere, Opening, SingleStep}
+use Rattle.pd_script.specs.declared.verb.Standing.TheVariants.{Anywhere, Opening, SingleStep, Served}
 use Rattle.pd_script.specs.declared.request_verb.RequestVerb.{RequestVerb}
 use Rattle.pd_script.specs.declared.verb.TheConstants.{VERBS}
 use Rattle.pd_script.specs.declared.verb.Verb.{Verb}
-use Rattle.pd_script.specs.declared.verb.Verb.TheVariants.{Cell, Lead, Tick, Resign, Take, Tell, Hear, Read, Campaign, Save, Raise, Publish, Probe, Look, Arm, Draw}
+use Rattle.pd_script.specs.declared.verb.Verb.TheVariants.{Cell, Lead, Tick, Resign, Take, Tell, Hear, Read, Campaign, Save, Raise, Publish, Probe, Look, Arm, Draw, Pop}
 
 -- what is said of a line by its first word
 pub record Row : Type 0 where
@@ -39,18 +39,29 @@ row Probe = record { name = codes "probe"; places = Two Driver Moment; standing 
 row Look = record { name = codes "look"; places = Two Client Driver; standing = SingleStep }
 row Arm = record { name = codes "arm"; places = Two Client Count; standing = SingleStep }
 row Draw = record { name = codes "draw"; places = One Client; standing = SingleStep }
+row Pop = record { name = codes "pop"; places = Two Id Driver; standing = Served }
 
 -- the one of all first words that a word names
 abbrev pub verb_of : List ℕ → Option Verb
 verb_of word = find (λ verb. bytes_eq word (row verb).name) VERBS
 
--- the line may not stand here: a `cell` line behind another event, a single step in `run`
+-- the line may not stand here: a `cell` line behind another event; in `run` a single step, or what clusters are served for
 abbrev pub is_misplaced : Mode → Bool → Standing → Bool
 is_misplaced mode first Anywhere = false
 is_misplaced mode true Opening = false
 is_misplaced mode false Opening = true
 is_misplaced Replay first SingleStep = false
 is_misplaced Run first SingleStep = true
+is_misplaced Replay first Served = false
+is_misplaced Run first Served = true
+
+-- the first word isn't known: in `run` what clusters are served for
+abbrev pub is_unknown : Mode → Standing → Bool
+is_unknown Replay standing = false
+is_unknown Run Anywhere = false
+is_unknown Run Opening = false
+is_unknown Run SingleStep = false
+is_unknown Run Served = true
 
 -- what asks a cluster is known in `replay` alone: `run` serves none
 abbrev pub known_in : Mode → Option RequestVerb → Option RequestVerb

@@ -40,6 +40,8 @@ pub enum Act {
     Arm { client: u8, n: u64 },
     /// Adds the armed count to the cursor.
     Draw { client: u8 },
+    /// The store takes the oldest of the steps that the driver's cluster sent to it.
+    Pop { store: u64, driver: u8 },
     /// A request to a driver's cluster.
     Ask { driver: u8, request: Request },
 }
@@ -53,7 +55,7 @@ pub struct Line {
     pub act: Act,
 }
 
-/// What a line of the oracle does.
+/// What a line does that is no request.
 pub fn step_act(verb: Verb, numbers: Numbers) -> Act
     requires drivers { greatest_in if_driver (row verb).places numbers ≤ 7 }
     requires clients { greatest_in if_client (row verb).places numbers ≤ 64 }
@@ -122,6 +124,10 @@ pub fn step_act(verb: Verb, numbers: Numbers) -> Act
         },
         Verb::Draw => Act::Draw {
             client: first as u8,
+        },
+        Verb::Pop => Act::Pop {
+            store: first,
+            driver: second as u8,
         },
     }
 }

@@ -14,6 +14,7 @@ pub fn asker(driver: u8, request: &Request) -> Actor
         Request::Hello { store, .. } | Request::Alive { store, .. } | Request::Beat { store, .. } =>
             { Actor::Store(*store) }
         Request::Rule { .. } | Request::Unrule { .. } => Actor::Driver(driver),
+        Request::Check { .. } | Request::Patrol { .. } => Actor::Driver(driver),
         Request::Term { .. } | Request::Retire => Actor::Driver(driver),
     }
 }
@@ -26,6 +27,7 @@ pub fn speaker(request: &Request) -> Option<u64>
         Request::Hello { store, .. } | Request::Alive { store, .. } | Request::Beat { store, .. } =>
             { Some(*store) }
         Request::Rule { .. } | Request::Unrule { .. } => None,
+        Request::Check { .. } | Request::Patrol { .. } => None,
         Request::Term { .. } | Request::Retire => None,
     }
 }
@@ -39,11 +41,13 @@ fn acting(place: Place, n: u64) -> Option<Actor>
     match place {
         Place::Driver => Some(Actor::Driver(n as u8)),
         Place::Client => Some(Actor::Client(n as u8)),
+        Place::Id => Some(Actor::Store(n)),
         _ => None,
     }
 }
 
-/// Who acts in a line of the oracle: the driver or client that it names first, none in a `cell` line.
+/// Who acts in a line that is no request: the driver, the client or the store that it names first, none
+/// in a `cell` line.
 pub fn step_actor(places: Places, n: Numbers) -> Option<Actor>
     requires drivers { greatest_in if_driver places n ≤ 7 }
     requires clients { greatest_in if_client places n ≤ 64 }

@@ -5,6 +5,7 @@ ghost use Rattle.pd_script.specs.Refusals.{IsLineRefusal};
 ghost use Rattle.pd_script.specs.Words.{words};
 
 use crate::Reason;
+use crate::checks::{check, patrol};
 use crate::form::{address, key_form, labels};
 use crate::items::{downs, peers, pending};
 use crate::line::word;
@@ -268,5 +269,7 @@ pub fn read_asked(alloc: Global, verb: RequestVerb, rest: &[u8]) -> Result<Asked
         RequestVerb::Beat => beat(alloc, rest),
         RequestVerb::Rule => rule(alloc, rest),
         RequestVerb::Unrule => unrule(alloc, rest),
+        RequestVerb::Check => Ok(check(rest)?),
+        RequestVerb::Patrol => Ok(patrol(rest)?),
     }
 }

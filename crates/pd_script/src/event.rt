@@ -1,6 +1,6 @@
 // Lines that aren't passed over, and what they name.
 ghost use Rattle.std.specs.Prelude.{◌≡◌, ◌≤◌, option_to_list};
-ghost use Rattle.pd_script.specs.Scripts.{act_of, actor_of, client_of, driver_of, greatest_in, if_client, if_driver, is_lead, line_of, store_of};
+ghost use Rattle.pd_script.specs.Scripts.{act_of, acting, actor_by, actor_of, client_of, driver_of, greatest_in, if_client, if_driver, is_lead, line_of, store_by, store_of};
 
 use crate::act::step_act;
 use crate::actor::{asker, speaker, step_actor};
@@ -12,7 +12,7 @@ use pd_types::{Actor, Request};
 /// A line that isn't passed over.
 #[derive(Debug, Drop, PartialEq)]
 pub enum Event {
-    /// A line of the oracle: its first word and its numbers, in their ranges.
+    /// A line that is no request: its first word and its numbers, in their ranges.
     Step { verb: Verb, numbers: Numbers },
     /// A request to a driver's cluster, of a store or of the driver itself.
     Ask { driver: u64, request: Request },
@@ -69,6 +69,27 @@ fn client_in(places: Places, n: Numbers) -> u64
     }
 }
 
+// The store that acts in a place, where one does.
+fn if_store(place: Place, n: u64) -> Option<u64>
+    ensures value { option_to_list result ≡ store_by (acting place n) }
+{
+    match place {
+        Place::Id => Some(n),
+        _ => None,
+    }
+}
+
+// The store that a line names first, where it does.
+fn store_in(places: Places, n: Numbers) -> Option<u64>
+    ensures value { option_to_list result ≡ store_by (actor_by places n) }
+{
+    match places {
+        Places::One(p) => if_store(p, n.first),
+        Places::Two(p, _) => if_store(p, n.first),
+        Places::Three(p, _, _) => if_store(p, n.first),
+    }
+}
+
 impl Event {
     /// The greatest driver that it names, 0 without one.
     pub fn driver(&self) -> u64
@@ -90,12 +111,12 @@ impl Event {
         }
     }
 
-    /// The store that speaks in it, where one does.
+    /// The store that acts in it, where one does.
     pub fn store(&self) -> Option<u64>
         ensures value { option_to_list result ≡ store_of self.now }
     {
         match self {
-            Event::Step { .. } => None,
+            Event::Step { verb, numbers } => store_in(verb.row().places, *numbers),
             Event::Ask { request, .. } => speaker(request),
         }
     }

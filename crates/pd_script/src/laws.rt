@@ -9,7 +9,7 @@ ghost use Rattle.pd_script.specs.Joining.{joined_items, joined_lines, spaced};
 ghost use Rattle.pd_script.specs.Places.{least, most};
 ghost use Rattle.pd_script.specs.Scripts.{asker};
 ghost use Rattle.pd_script.specs.Words.{behind_word, pieces_from, raw_lines, trimmed, words};
-ghost use Rattle.pd_script.specs.declared.place.Place.TheVariants.{Client, Count, Driver, Id, Moment, Saved, Seconds, Term, Version};
+ghost use Rattle.pd_script.specs.declared.place.Place.TheVariants.{Client, Count, Driver, Id, Moment, Saved, Seconds, Term, Version, Workers};
 
 /// Nothing is lost where a text is cut: its lines with their line feeds are the text, and no line
 /// has a line feed in it; the pieces of a line with spaces between them are the line, and none has
@@ -46,6 +46,7 @@ pub fn each_place_has_its_range()
     ensures most_ids { most Id ≡ 2 ^ 63 - 1 }
     ensures versions { most Version ≡ 2 ^ 63 - 1 }
     ensures seconds { most Seconds ≡ 2 ^ 32 - 1 }
+    ensures workers { (least Workers ≡ 1) × (most Workers ≡ 16) }
     ensures rest { (least Moment ≡ 0) × (least Saved ≡ 0) × (least Term ≡ 0) }
     ensures others { (least Version ≡ 0) × (least Seconds ≡ 0) }
 {}

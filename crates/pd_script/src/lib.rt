@@ -4,6 +4,7 @@
 mod act;
 mod actor;
 mod ask;
+mod checks;
 mod event;
 mod form;
 mod items;

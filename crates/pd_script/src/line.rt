@@ -4,7 +4,7 @@ ghost use Rattle.pd_script.specs.Asks.{request_verb_of};
 ghost use Rattle.pd_script.specs.Grammar.{by_request_verb, content_of, event_of, has_bad_byte, numbers_of, step_of};
 ghost use Rattle.pd_script.specs.Refusals.{IsLineRefusal};
 ghost use Rattle.pd_script.specs.Words.{behind_word, words};
-ghost use Rattle.pd_script.specs.Table.{is_misplaced};
+ghost use Rattle.pd_script.specs.Table.{is_misplaced, is_unknown};
 
 use crate::ask::{Asked, read_asked};
 use crate::event::Event;
@@ -92,15 +92,25 @@ fn misplaced(mode: Mode, first: bool, standing: Standing) -> bool
     match standing {
         Standing::Anywhere => false,
         Standing::Opening => !first,
-        Standing::SingleStep => mode == Mode::Run,
+        Standing::SingleStep | Standing::Served => mode == Mode::Run,
     }
 }
 
-// What a line of the oracle says.
+// Whether the first word of a line with this standing isn't known.
+fn unknown(mode: Mode, standing: Standing) -> bool
+    ensures value { result ≡ is_unknown mode standing }
+{
+    mode == Mode::Run && standing == Standing::Served
+}
+
+// What a line says that is no request.
 fn step(mode: Mode, first: bool, verb: Verb, rest: &[u8]) -> Result<Event, Reason>
     ensures value { result ≡ step_of mode first verb (words rest.now) }
 {
     let row = verb.row();
+    if unknown(mode, row.standing) {
+        return Err(Reason::UnknownWord);
+    }
     if misplaced(mode, first, row.standing) {
         return Err(Reason::Misplaced);
     }
@@ -108,7 +118,7 @@ fn step(mode: Mode, first: bool, verb: Verb, rest: &[u8]) -> Result<Event, Reaso
     Ok(Event::Step { verb, numbers })
 }
 
-// What a line that isn't the oracle's says.
+// What a line that is a request says.
 fn ask(alloc: Global, name: &[u8], rest: &[u8]) -> Result<Event, LineRefusal>
     ensures ok { IfOk result (λ event. by_request_verb rest.now (request_verb_of name.now) ≡ Ok event) }
     ensures refused { IfErr result (IsLineRefusal (by_request_verb rest.now (request_verb_of name.now))) }

@@ -24,6 +24,8 @@ pub enum Place {
     Version,
     /// For how many seconds a peer is down.
     Seconds,
+    /// How many workers check all regions.
+    Workers,
 }
 
 impl Place {
@@ -35,6 +37,7 @@ impl Place {
             Place::Driver | Place::Client | Place::Count | Place::Id => 1,
             Place::Moment | Place::Saved | Place::Term => 0,
             Place::Version | Place::Seconds => 0,
+            Place::Workers => 1,
         }
     }
 
@@ -49,6 +52,7 @@ impl Place {
             Place::Count | Place::Term => 262_143,
             Place::Id | Place::Version => (1 << 63) - 1,
             Place::Seconds => (1 << 32) - 1,
+            Place::Workers => 16,
         }
     }
 }

@@ -11,6 +11,8 @@ pub enum RequestVerb {
     Beat,
     Rule,
     Unrule,
+    Check,
+    Patrol,
 }
 
 impl RequestVerb {
@@ -24,6 +26,8 @@ impl RequestVerb {
             RequestVerb::Beat => "beat",
             RequestVerb::Rule => "rule",
             RequestVerb::Unrule => "unrule",
+            RequestVerb::Check => "check",
+            RequestVerb::Patrol => "patrol",
         }
     }
 }
@@ -50,6 +54,8 @@ pub fn request_verb_of(word: &[u8]) -> Option<RequestVerb>
         RequestVerb::Beat,
         RequestVerb::Rule,
         RequestVerb::Unrule,
+        RequestVerb::Check,
+        RequestVerb::Patrol,
     ];
     first_named_request(&verbs, word)
 }

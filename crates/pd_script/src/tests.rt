@@ -177,6 +177,40 @@ const REPLAY: &str = "\
 4 unrule x
 5 unrule 1 1000 pd default x
 5 unrule x x x x x
+0 check 1 1000 7
+0 check 7 70368744177663 9223372036854775807
+4 check
+4 check 1 1000
+5 check 1 1000 7 7
+5 check x x x x
+7 check 0 x 7
+6 check x 70368744177664 7
+7 check 1 70368744177664 x
+7 check 1 1000 0
+7 check 1 1000 9223372036854775808
+6 check 1 1000 r
+0 patrol 1 1000 1
+0 patrol 7 0 16
+4 patrol
+4 patrol 1 1000
+5 patrol 1 1000 1 1
+7 patrol 0 x 1
+6 patrol 1 now 17
+7 patrol 1 1000 0
+7 patrol 1 1000 17
+6 patrol 1 1000 all
+0 pop 1 1
+0 pop 9223372036854775807 7
+4 pop
+4 pop 1
+5 pop 1 1 1
+5 pop x x x
+7 pop 0 x
+6 pop x 0
+7 pop 9223372036854775808 1
+7 pop 1 0
+6 pop 1 d
+3 pops 1 1
 3 run
 3 Lead 1 1
 3 lea 1 1
@@ -203,11 +237,16 @@ const RUN: &str = "\
 0 take 1 1 1
 3 hello 1 1 1 a
 3 alive
+3 pop 1 1
+3 pop
 3 beat x
 3 rule
 3 rule 1 1000 {}
 3 unrule 1
 3 unrule 1 1000 pd default
+3 check
+3 check 1 1000 7
+3 patrol 1 1000 1
 ";
 
 // The number of the reason of the first line, 0 where the text is a script.
@@ -397,6 +436,53 @@ fn a_rule_is_removed_by_its_group_and_id(rt: HostRuntime) -> Result<(), Fail> {
 }
 
 #[test]
+fn a_driver_has_its_regions_checked(rt: HostRuntime) -> Result<(), Fail> {
+    let script = read_script(rt.alloc(), b"check 3 9 7\npatrol 3 10 16\n", Mode::Replay)?;
+    assert_eq!(rt; (script.drivers, script.lines.len()), (3, 2));
+    for line in script.lines.as_slice() {
+        assert_eq!(rt; line.actor, Some(Actor::Driver(3)));
+        match &line.act {
+            Act::Ask {
+                driver: 3,
+                request: Request::Check {
+                    moment: 9,
+                    region: 7,
+                },
+            } => assert_eq!(rt; line.number, 1),
+            Act::Ask {
+                driver: 3,
+                request: Request::Patrol {
+                    moment: 10,
+                    workers: 16,
+                },
+            } => assert_eq!(rt; line.number, 2),
+            _ => assert!(rt; false, "another act"),
+        }
+    }
+    Ok(())
+}
+
+#[test]
+fn a_store_that_pops_acts(rt: HostRuntime) -> Result<(), Fail> {
+    let script = read_script(rt.alloc(), b"pop 9 3\n", Mode::Replay)?;
+    assert_eq!(rt;
+        (script.drivers, script.clients, script.lines.len()),
+        (3, 1, 1)
+    );
+    for line in script.lines.as_slice() {
+        assert_eq!(rt; line.actor, Some(Actor::Store(9)));
+        assert_eq!(rt;
+            line.act,
+            Act::Pop {
+                store: 9,
+                driver: 3
+            }
+        );
+    }
+    Ok(())
+}
+
+#[test]
 fn leads_are_tested_behind_stores(rt: HostRuntime) -> Result<(), Fail> {
     let alloc = rt.alloc();
     let mut text = String::new(alloc);
@@ -414,7 +500,9 @@ fn leads_are_tested_behind_stores(rt: HostRuntime) -> Result<(), Fail> {
     text.push_str("lead 3 1\n")?;
     expect(&rt, alloc, text.as_bytes(), leads(1026));
     for store in 1..258u64 {
-        let line = format!(in alloc; "alive {store} 1 1\n")?;
+        let word = if store % 2 == 0 { "pop" } else { "alive" };
+        let end = if store % 2 == 0 { "" } else { " 1" };
+        let line = format!(in alloc; "{word} {store} 1{end}\n")?;
         text.push_str(line.as_str())?;
     }
     let stores = ScriptRefusal::Limit {

@@ -4,9 +4,9 @@ ghost use Rattle.std.specs.Str.{bytes_eq};
 ghost use Rattle.pd_script.specs.Table.{row, verb_of};
 
 use crate::place::Place;
-use crate::place::Place::{Client, Count, Driver, Moment, Saved, Term};
+use crate::place::Place::{Client, Count, Driver, Id, Moment, Saved, Term};
 use Places::{One, Three, Two};
-use Standing::{Anywhere, Opening, SingleStep};
+use Standing::{Anywhere, Opening, Served, SingleStep};
 
 /// The first words of lines.
 #[derive(Clone, Copy, Debug, PartialEq, Eq)]
@@ -27,6 +27,7 @@ pub enum Verb {
     Look,
     Arm,
     Draw,
+    Pop,
 }
 
 /// Where a line may stand.
@@ -37,6 +38,8 @@ pub enum Standing {
     Opening,
     /// In `replay` alone, a single step of the oracle.
     SingleStep,
+    /// In `replay` alone, where clusters are served: `run` doesn't know its word.
+    Served,
 }
 
 /// The places behind the first word, one to three.
@@ -67,7 +70,7 @@ pub struct Row {
 }
 
 /// All first words.
-pub const VERBS: [Verb; 16] = [
+pub const VERBS: [Verb; 17] = [
     Verb::Cell,
     Verb::Lead,
     Verb::Tick,
@@ -84,6 +87,7 @@ pub const VERBS: [Verb; 16] = [
     Verb::Look,
     Verb::Arm,
     Verb::Draw,
+    Verb::Pop,
 ];
 
 fn row_of(name: &'static str, places: Places, standing: Standing) -> Row
@@ -122,6 +126,7 @@ impl Verb {
             Verb::Look => row_of("look", Two(Client, Driver), SingleStep),
             Verb::Arm => row_of("arm", Two(Client, Count), SingleStep),
             Verb::Draw => row_of("draw", One(Client), SingleStep),
+            Verb::Pop => row_of("pop", Two(Id, Driver), Served),
         }
     }
 }
