@@ -1,10 +1,11 @@
 -- The answers to any lawful script are a safe history.
-use Rattle.std.proofs.Common.{cond, ltb, nat_eq, ◌⊎◌, inl, inr, ⊎_elim, ◌<◌, ◌≤◌, ◌≡◌, ℕ, zero, suc, ◌^◌, List, [], ◌∷◌, ◌++◌, Bool, true, false, length, map, refl, sym, ap, ◌∙◌, subst, arith, append_assoc}
+use Rattle.std.proofs.Common.{cond, ltb, nat_eq, ◌⊎◌, inl, inr, ⊎_elim, ◌<◌, ◌≤◌, ◌≡◌, ℕ, ◌+◌, zero, suc, ◌^◌, List, [], ◌∷◌, ◌++◌, Bool, true, false, length, map, refl, sym, ap, ◌∙◌, subst, arith, append_assoc}
 use Rattle.std.specs.Prelude.{All, AllPairs, Contains, Option, None, Some, option_to_list, slice_index_or}
 use Rattle.std.specs.List.{AllByRecursion}
 use Rattle.std.proofs.lemmas.Bool.Decides.{nat_tests}
 use Rattle.std.proofs.lemmas.List.Elements.{All-from_recursion, All-nil, recursion_from_All}
 use Rattle.std.proofs.lemmas.List.Kept.{AllPairs-cons}
+use Rattle.std.proofs.lemmas.List.{length-replicate}
 use Rattle.pd_types.specs.Batch.{first_of}
 use Rattle.pd_types.specs.declared.oracle.Batch.{Batch}
 use Rattle.pd_types.specs.declared.oracle.Seen.{Seen}
@@ -22,10 +23,10 @@ use Rattle.tso_core.specs.Asked.{IsCount}
 use Rattle.tso_core.specs.Steps.{Stepped}
 use Rattle.tso_core.specs.Whole.{Whole}
 use Rattle.tso_core.specs.declared.reply.Reply.{Reply}
-use Rattle.tso_core.specs.declared.reply.Reply.TheVariants.{Got, Again, Nothing, CellRead}
+use Rattle.tso_core.specs.declared.reply.Reply.TheVariants.{Got, Nothing, CellRead}
 use Rattle.tso_core.specs.declared.reply.Kind.TheVariants.{Read as ToRead, Campaign as ToCampaign, Save as ToSave, Raise as ToRaise, Publish as ToPublish, Probe as ToProbe, Look as ToLook, Arm as ToArm, Draw as ToDraw}
 use Rattle.pd_types.specs.declared.oracle.Actor.{Actor}
-use Rattle.pd_types.specs.declared.oracle.Actor.TheVariants.{Driver, Client}
+use Rattle.pd_types.specs.declared.oracle.Actor.TheVariants.{Driver, Client, Store}
 use Rattle.tso_core.proofs.Granted.{ledger, bounded}
 use Rattle.tso_core.proofs.Telling.{each_call_tells, is_new}
 use Rattle.pd_script.specs.Lawful.{AreLawful, IsInRange, IsLawful, IsLawfulScript, actor_in}
@@ -34,15 +35,18 @@ use Rattle.pd_types.specs.declared.request.Request.{Request}
 use Rattle.pd_types.specs.declared.request.Request.TheVariants.{Hello, Alive, Beat}
 use Rattle.pd_script.specs.Scripts.{asker}
 use Rattle.pd_script.specs.declared.act.Act.{Act}
-use Rattle.pd_script.specs.declared.act.Act.TheVariants.{Cell, Lead, Tick, Resign, Take, Tell, Hear, Read, Campaign, Save, Raise, Publish, Probe, Look, Arm, Draw, Ask}
+use Rattle.pd_script.specs.declared.act.Act.TheVariants.{Cell, Lead, Tick, Resign, Take, Tell, Hear, Read, Campaign, Save, Raise, Publish, Probe, Look, Arm, Draw, Ask, Pop}
 use Rattle.pd_script.specs.declared.act.Line.{Line}
 use Rattle.pd_script.specs.declared.script.Mode.{Mode}
+use Rattle.pd_script.specs.declared.script.Mode.TheVariants.{Replay as ByLine}
 use Rattle.pd_script.specs.declared.script.Script.{Script}
 use Rattle.pd_cluster.specs.Answers.{Answer, answer_text, answers_text, client_in, driver_in, named_cell, opening_cell, oracle_reply}
 use Rattle.tso_model.specs.OneHistory.{AreApart, LiesInOne}
 use Rattle.pd_cluster.specs.History.{HasPassed, IsFairAfter, batches_of, caller, opening_window, reply, windows_from, windows_of}
 use Rattle.pd_cluster.specs.Outcome.{IsSafeRun, StaysBounded}
-use Rattle.pd_cluster.specs.Replay.{State, act_step, answers_from, answers_of, line_step, setup_of, start, state_after}
+use Rattle.pd_cluster.specs.Replay.{State, act_step, answers_from, answers_of, line_step, past_at, setup_of, start, state_after}
+use Rattle.pd_cluster.specs.Sent.{HaveSafeSteps, IsSafeSaid}
+use Rattle.pd_cluster.proofs.Sending.{printed, start_sound}
 
 -- the ranges of a script are the oracle's
 pub has_driver : (k : Setup) (d : ℕ) → IsInRange k.drivers k.clients (AtDriver, d) → HasDriver k d
@@ -104,6 +108,7 @@ act_tells w s (Look client driver) asked = (each_call_tells w s).step (Client cl
 act_tells w s (Arm client n) asked = (each_call_tells w s).step (Client client) (ToArm n) (has_client w.setup client asked.0) (is_count w.setup.drivers w.setup.clients n asked.1.0)
 act_tells w s (Draw client) asked = (each_call_tells w s).step (Client client) ToDraw (has_client w.setup client asked.0) tt
 act_tells w s (Ask driver request) asked = silent w s (driver_in (Some (asker driver request))) (client_in (Some (asker driver request)))
+act_tells w s (Pop store driver) asked = silent w s (driver_in (Some (Store store))) (client_in (Some (Store store)))
 
 -- the element is in the list
 abbrev In : {A : Type 0} → A → List A → Type 0
@@ -230,6 +235,7 @@ oracle_turn state line = record { reply = oracle_reply (line_step state line).sa
 
 same_turn : (state : State) (number : ℕ) (actor : Option Actor) (act : Act) → oracle_turn state (record { number = number; actor = actor; act = act }) ≡ act_step state.oracle act
 same_turn state number actor (Ask driver request) = refl
+same_turn state number actor (Pop store driver) = refl
 same_turn state number actor _ = refl
 
 has_or_not : (k : Setup) (c : ℕ) → HasClient k c ⊎ (HasClient k c → ⊥)
@@ -392,6 +398,14 @@ pub same_lines : (lines : List Line) (state : State) → map (λ (answer : Answe
 same_lines [] state = refl
 same_lines (line ∷ lines) state = ap (λ (ls : List Line). line ∷ ls) (same_lines lines (line_step state line).after)
 
+-- the steps that are printed
+pub safe_steps : (script : Script) → IsLawfulScript ByLine script → HaveSafeSteps (answers_of script)
+safe_steps script lawful =
+    let each = each_lawful ByLine script.drivers script.clients true script.lines lawful.lines in
+    let all = printed script.drivers script.clients script.lines (start script) each (start_sound script.drivers script.lines (start script) (length-replicate (script.drivers + 1) []) refl refl) in
+    let js = (state_after (start script) script.lines).kept.journals in
+    record { journals = past_at js; legal = all.legal; safe = All-from_recursion (λ (answer : Answer). IsSafeSaid (past_at js) answer.line answer.said) (answers_of script) all.safe }
+
 pub history : (mode : Mode) (script : Script) → IsLawfulScript mode script → IsSafeRun script
 history mode script lawful =
     let new = is_new (setup_of script) (is_setup mode script lawful) in
@@ -433,6 +447,7 @@ asker_low drivers driver _ low = low
 
 driver_low : (drivers clients : ℕ) (act : Act) → IsLawful drivers clients act → driver_in (actor_in act) ≤ drivers
 driver_low drivers clients (Ask driver request) asked = asker_low drivers driver request asked.0.high
+driver_low drivers clients (Pop store driver) asked = omega arith
 driver_low drivers clients _ asked = omega (arith, asked.0.high)
 
 pub actor_low : (drivers clients : ℕ) (actor : Option Actor) (act : Act) → actor ≡ actor_in act → IsLawful drivers clients act → driver_in actor ≤ drivers

@@ -9,7 +9,7 @@ use Rattle.pd_types.specs.declared.oracle.Actor.{Actor}
 use Rattle.pd_script.specs.Lawful.{AreLawful, IsLawful, IsLawfulScript, IsServed, actor_in, standing_of}
 use Rattle.pd_script.specs.Table.{is_misplaced}
 use Rattle.pd_script.specs.declared.act.Act.{Act}
-use Rattle.pd_script.specs.declared.act.Act.TheVariants.{Cell, Lead, Tick, Resign, Take, Tell, Hear, Read, Campaign, Save, Raise, Publish, Probe, Look, Arm, Draw, Ask}
+use Rattle.pd_script.specs.declared.act.Act.TheVariants.{Cell, Lead, Tick, Resign, Take, Tell, Hear, Ask}
 use Rattle.pd_script.specs.declared.act.Line.{Line}
 use Rattle.pd_script.specs.declared.script.Mode.TheVariants.{Run as OnThreads}
 use Rattle.pd_script.specs.declared.script.Script.{Script}

@@ -7,8 +7,9 @@ use Rattle.std.proofs.lemmas.List.{get_or-map, get_or-set_same, get_or-set_other
 use Rattle.std.proofs.lemmas.List.Elements.{All-push, All-set}
 use Rattle.pd_types.specs.declared.oracle.Actor.{Actor}
 use Rattle.pd_types.specs.declared.request.Request.{Request}
+use Rattle.pd_types.specs.declared.step.StepMsg.{StepMsg}
 use Rattle.pd_state.specs.Clusters.{ClusterValue, Served, cluster_value}
-use Rattle.pd_state.specs.Legal.{first_reply}
+use Rattle.pd_state.specs.Legal.{first_reply, sends_by}
 use Rattle.pd_state.specs.State.{part_after}
 use Rattle.pd_state.specs.declared.entry.Entry.{Entry}
 use Rattle.pd_state.specs.declared.reply.Reply.{Reply}
@@ -18,26 +19,25 @@ use Rattle.meta_store.specs.declared.record.MetaEntry.{MetaEntry}
 use Rattle.meta_store.specs.Asked.{AreAsked}
 use Rattle.meta_store.specs.Doors.{said_of}
 use Rattle.meta_store.specs.Past.{entry_of as meta_entry, noted, verdict_of}
-use Rattle.pd_state.specs.Calls.{next_call}
+use Rattle.pd_state.specs.Calls.{most_calls, next_call}
 use Rattle.pd_state.specs.Clusters.{Spoken}
 use Rattle.pd_state.specs.Heard.{told_all}
-use Rattle.pd_state.proofs.CallLemmas.{two_calls}
+use Rattle.pd_state.proofs.Few.{few_answers}
 use Rattle.pd_cluster.specs.Clusters.{AreAlive, AreNumbered, journals_of, kept_of, past_of}
 use Rattle.pd_cluster.specs.Metadata.{answer_to, answers_from, answers_to, with_answers, with_call}
-use Rattle.pd_types.specs.declared.oracle.CellWord.{CellWord}
 use Rattle.pd_script.specs.declared.act.Line.{Line}
 use Rattle.pd_script.specs.declared.script.Script.{Script}
-use Rattle.tso_core.specs.Opened.{opened}
 use Rattle.tso_core.specs.Whole.{Whole}
 use Rattle.tso_core.specs.declared.reply.Reply.{Reply as Answered}
 use Rattle.pd_cluster.specs.declared.lead.BegunLead.{BegunLead}
-use Rattle.pd_cluster.specs.Answers.{driver_in, opening_cell}
+use Rattle.pd_cluster.specs.Answers.{driver_in}
+use Rattle.pd_cluster.specs.Streams.{Waiting, last_sends, with_messages}
 use Rattle.pd_script.specs.Scripts.{asker}
-use Rattle.pd_cluster.specs.Replay.{answers_at, Kept, State, act_step, asked_besides, lead_after, lead_at, oracle_line, past_at, served, start, with_besides, with_served}
+use Rattle.pd_cluster.specs.Replay.{answers_at, Kept, State, act_step, asked_besides, asked_line, begun, lead_after, lead_at, oracle_line, past_at, replied, served, start, waiting_at, with_besides, with_served}
 
 -- an entry, by its parts
-abbrev entry_of : Actor → ℕ → Request → List MetaAnswer → Reply → Entry
-entry_of actor line request answers reply = record { actor = actor; line = line; request = request; answers = answers; reply = reply }
+abbrev entry_of : Actor → ℕ → Request → List MetaAnswer → List StepMsg → Reply → Entry
+entry_of actor line request answers sends reply = record { actor = actor; line = line; request = request; answers = answers; sends = sends; reply = reply }
 
 -- the answers that the metadata gives to calls in a row
 answers_given : List MetaEntry → ℕ → List MetaAnswer → List MetaAnswer
@@ -89,16 +89,19 @@ module _ (old new : ClusterValue) (journal now : List MetaEntry) (actor : Actor)
   its_calls : reverse now ≡ with_answers (reverse journal) old.driver s.entry.answers
   its_calls = told_calls journal now old.driver s.entry.answers s.told
 
-  its_answers : s.entry.answers ≡ answers_to (next_call (part_after (past_of old)) request) (reverse journal) old.driver
+  its_answers : s.entry.answers ≡ answers_to (most_calls (part_after (past_of old)) request) (next_call (part_after (past_of old)) request) (reverse journal) old.driver
   its_answers =
       let given : s.entry.answers ≡ answers_given (reverse journal) old.driver s.entry.answers =
       cancel (said_of (reverse journal)) s.entry.answers (answers_given (reverse journal) old.driver s.entry.answers) (sym s.said ∙ ap said_of its_calls ∙ said_more (reverse journal) old.driver s.entry.answers) in
-      let few = two_calls (part_after (past_of old)) s.entry.request s.entry.answers s.legal.asked in
-      asked_answers 2 (next_call (part_after (past_of old)) s.entry.request) (reverse journal) old.driver [] s.entry.answers (next_call (part_after (past_of old)) s.entry.request []) refl few s.legal.asked given
-      ∙ ap (λ (r : Request). answers_to (next_call (part_after (past_of old)) r) (reverse journal) old.driver) s.request_is
+      let few = few_answers (part_after (past_of old)) s.entry.request s.entry.answers s.legal.asked in
+      asked_answers (most_calls (part_after (past_of old)) s.entry.request) (next_call (part_after (past_of old)) s.entry.request) (reverse journal) old.driver [] s.entry.answers (next_call (part_after (past_of old)) s.entry.request []) refl few s.legal.asked given
+      ∙ ap (λ (r : Request). answers_to (most_calls (part_after (past_of old)) r) (next_call (part_after (past_of old)) r) (reverse journal) old.driver) s.request_is
 
-  its_entry : s.entry ≡ entry_of actor line request s.entry.answers reply
-  its_entry = λ i. record { actor = s.actor_is i; line = s.line_is i; request = s.request_is i; answers = s.entry.answers; reply = s.reply_is i }
+  its_entry : s.entry ≡ entry_of actor line request s.entry.answers s.entry.sends reply
+  its_entry = λ i. record { actor = s.actor_is i; line = s.line_is i; request = s.request_is i; answers = s.entry.answers; sends = s.entry.sends; reply = s.reply_is i }
+
+  its_sends : s.entry.sends ≡ sends_by old.driver (past_of old) request reply (record { answers = s.entry.answers })
+  its_sends = s.legal.sends_are ∙ (λ i. sends_by old.driver (past_of old) (s.request_is i) (s.reply_is i) (record { answers = s.entry.answers }))
 
   its_past : past_of new ≡ s.entry ∷ past_of old
   its_past = ap reverse s.appended ∙ reverse-append old.entries (s.entry ∷ [])
@@ -116,18 +119,25 @@ module _ (items : List ClusterValue) (d : ℕ) (c new : ClusterValue) (journal n
 
   answers_here : s.entry.answers ≡ answers_at (kept_of items journal) d request
   answers_here = its_answers (get_or items d c) new journal now (asker d request) line request reply s
-      ∙ ap (λ (n : ℕ). answers_to (next_call (part_after (past_of (get_or items d c))) request) (reverse journal) n) driver_here
-      ∙ ap (λ (p : List Entry). answers_to (next_call (part_after p) request) (reverse journal) d) (sym here)
+      ∙ ap (λ (n : ℕ). answers_to (most_calls (part_after (past_of (get_or items d c))) request) (next_call (part_after (past_of (get_or items d c))) request) (reverse journal) n) driver_here
+      ∙ ap (λ (p : List Entry). answers_to (most_calls (part_after p) request) (next_call (part_after p) request) (reverse journal) d) (sym here)
 
   pub served_reply : reply ≡ (served (kept_of items journal) d line request).reply
   served_reply = its_reply (get_or items d c) new journal now (asker d request) line request reply s
       ∙ ap (λ (answers : List MetaAnswer). first_reply (part_after (past_of (get_or items d c))) request (record { answers = answers })) answers_here
       ∙ ap (λ (p : List Entry). first_reply (part_after p) request (record { answers = answers_at (kept_of items journal) d request })) (sym here)
 
+  sends_here : s.entry.sends ≡ sends_by d (past_at (journals_of items) d) request (replied (kept_of items journal) d request) (record { answers = answers_at (kept_of items journal) d request })
+  sends_here = its_sends (get_or items d c) new journal now (asker d request) line request reply s
+      ∙ ap (λ (n : ℕ). sends_by n (past_of (get_or items d c)) request reply (record { answers = s.entry.answers })) driver_here
+      ∙ ap (λ (p : List Entry). sends_by d p request reply (record { answers = s.entry.answers })) (sym here)
+      ∙ (λ i. sends_by d (past_at (journals_of items) d) request (served_reply i) (record { answers = answers_here i }))
+
   entry_here : s.entry ≡ served (kept_of items journal) d line request
   entry_here = its_entry (get_or items d c) new journal now (asker d request) line request reply s
-      ∙ ap (λ (answers : List MetaAnswer). entry_of (asker d request) line request answers reply) answers_here
-      ∙ ap (λ (r : Reply). entry_of (asker d request) line request (answers_at (kept_of items journal) d request) r) served_reply
+      ∙ ap (λ (sends : List StepMsg). entry_of (asker d request) line request s.entry.answers sends reply) sends_here
+      ∙ ap (λ (answers : List MetaAnswer). entry_of (asker d request) line request answers (sends_by d (past_at (journals_of items) d) request (replied (kept_of items journal) d request) (record { answers = answers_at (kept_of items journal) d request })) reply) answers_here
+      ∙ ap (λ (r : Reply). entry_of (asker d request) line request (answers_at (kept_of items journal) d request) (sends_by d (past_at (journals_of items) d) request (replied (kept_of items journal) d request) (record { answers = answers_at (kept_of items journal) d request })) r) served_reply
 
   journals_here : journals_of (set items d new) ≡ set (journals_of items) d (served (kept_of items journal) d line request ∷ past_at (journals_of items) d)
   journals_here = map-set past_of items d new
@@ -183,7 +193,7 @@ any_default (x ∷ xs) (suc i) a b within = any_default xs i a b (omega (arith, 
 pub line_is : (state : State) (line : Line) (reply : Answered) (d : ℕ) (lead next : Option BegunLead) (request : Option Request) (core : Whole) (leads : List (Option BegunLead)) (kept : Kept)
     → d ≡ driver_in line.actor → lead ≡ lead_at state (driver_in line.actor) → reply ≡ (act_step state.oracle line.act).reply → request ≡ asked_besides line.act reply lead
     → next ≡ lead_after line.act reply lead → core ≡ (act_step state.oracle line.act).after → leads ≡ set state.leads d next → kept ≡ with_besides state.kept d line.number request
-    → (let after : State = record { oracle = core; leads = leads; kept = kept } in after) ≡ (oracle_line state line).after
+    → (let after : State = record { oracle = core; leads = leads; kept = kept; streams = state.streams } in after) ≡ (oracle_line state line).after
 line_is state line reply d lead next request core leads kept is_d is_lead is_reply is_request is_next is_core are_leads are_kept =
     rw (is_core, are_leads, are_kept, is_next, is_request, is_reply, is_lead, is_d) refl
 
@@ -214,6 +224,28 @@ pub leads_more : (leads : List (Option BegunLead)) (n : ℕ) → leads ≡ repli
 leads_more leads n before = ap (λ (ls : List (Option BegunLead)). ls ++ None ∷ []) before ∙ replicate-append-replicate n 1 None
 
 -- the first state of a script
-pub is_start : (script : Script) (state : State) (cell : CellWord)
-    → state ≡ record { oracle = opened (record { drivers = script.drivers; clients = script.clients; cell = cell }); leads = replicate (script.drivers + 1) None; kept = record { journals = replicate (script.drivers + 1) []; metadata = [] } } → cell ≡ opening_cell script.lines → state ≡ start script
-is_start script state cell new is = new ∙ ap (λ (c : CellWord). let s : State = record { oracle = opened (record { drivers = script.drivers; clients = script.clients; cell = c }); leads = replicate (script.drivers + 1) None; kept = record { journals = replicate (script.drivers + 1) []; metadata = [] } } in s) is
+pub is_start : (script : Script) (state : State) (lines : List Line) → state ≡ begun script.drivers script.clients lines → lines ≡ script.lines → state ≡ start script
+is_start script state lines new is = new ∙ ap (begun script.drivers script.clients) is
+
+-- the streams of one driver more
+pub streams_more : (streams : List Waiting) (n : ℕ) (waiting one : Waiting) → streams ≡ replicate n waiting → one ≡ waiting → streams ++ one ∷ [] ≡ replicate (n + 1) waiting
+streams_more streams n waiting one before is = ap (λ (ws : List Waiting). ws ++ one ∷ []) before ∙ ap (λ (w : Waiting). replicate n waiting ++ w ∷ []) is ∙ replicate-append-replicate n 1 waiting
+
+-- what the last entry sent, once a request was served
+pub sent_last : (items : List ClusterValue) (journal : List MetaEntry) (kept : Kept) (d line : ℕ) (request : Request) (c : ClusterValue) → d < length items → d < length kept.journals → kept_of items journal ≡ with_served kept d line request
+    → last_sends (past_of (get_or items d c)) ≡ (served kept d line request).sends
+sent_last items journal kept d line request c within low is =
+    ap last_sends (sym (get_or-map past_of items d c [] within) ∙ ap (λ (k : Kept). past_at k.journals d) is ∙ get_or-set_same kept.journals d (served kept d line request ∷ past_at kept.journals d) [] low)
+
+-- the state after a line that asks a cluster, from what the calls leave
+pub asked_is : (state : State) (line d : ℕ) (request : Request) (items : List ClusterValue) (journal : List MetaEntry) (c : ClusterValue) (one new : Waiting) (streams : List Waiting) → d < length items → d < length state.kept.journals
+    → kept_of items journal ≡ with_served state.kept d line request → one ≡ waiting_at state d → new ≡ with_messages one (last_sends (past_of (get_or items d c))) → streams ≡ set state.streams d new
+    → (let after : State = record { oracle = state.oracle; leads = state.leads; kept = kept_of items journal; streams = streams } in after) ≡ (asked_line state line d request).after
+asked_is state line d request items journal c one new streams within low kept_is one_is new_is streams_is =
+    let sends = sent_last items journal state.kept d line request c within low kept_is in
+    λ i. record {
+      oracle = state.oracle;
+      leads = state.leads;
+      kept = kept_is i;
+      streams = (streams_is ∙ ap (λ (w : Waiting). set state.streams d w) (new_is ∙ ap (λ (w : Waiting). with_messages w (last_sends (past_of (get_or items d c)))) one_is ∙ ap (λ (ms : List StepMsg). with_messages (waiting_at state d) ms) sends)) i;
+    }

@@ -20,7 +20,7 @@ kept_of clusters journal = record { journals = journals_of clusters; metadata = 
 
 -- the state
 abbrev pub state_of : Replay → State
-state_of replay = record { oracle = replay.core; leads = replay.leads.items; kept = kept_of replay.clusters.items replay.meta }
+state_of replay = record { oracle = replay.core; leads = replay.leads.items; kept = kept_of replay.clusters.items replay.meta; streams = replay.streams.items }
 
 -- want of memory ended none of the clusters
 abbrev pub AreAlive : List ClusterValue → Type 0
@@ -34,5 +34,6 @@ AreNumbered clusters = (d : ℕ) (any : ClusterValue) → d < length clusters �
 pub record IsReady (replay : Replay) : Type 0 where
   pub leads : length replay.leads.items ≡ replay.core.setup.drivers + 1
   pub clusters : length replay.clusters.items ≡ replay.core.setup.drivers + 1
+  pub streams : length replay.streams.items ≡ replay.core.setup.drivers + 1
   pub alive : AreAlive replay.clusters.items
   pub numbered : AreNumbered replay.clusters.items

@@ -21,13 +21,9 @@ answers_from zero next past driver before (Some call) = []
 answers_from (suc n) next past driver before (Some call) =
     answer_to past call ∷ answers_from n next (with_call past driver call) driver (before ++ answer_to past call ∷ []) (next (before ++ answer_to past call ∷ []))
 
--- a request makes two calls at most
-abbrev pub most_calls : ℕ
-most_calls = 2
-
--- the answers to the calls of a request
-abbrev pub answers_to : (List MetaAnswer → Option MetaCall) → List MetaEntry → ℕ → List MetaAnswer
-answers_to next past driver = answers_from most_calls next past driver [] (next [])
+-- the answers to the calls of a request, of which there are at most so many
+abbrev pub answers_to : ℕ → (List MetaAnswer → Option MetaCall) → List MetaEntry → ℕ → List MetaAnswer
+answers_to most next past driver = answers_from most next past driver [] (next [])
 
 -- the calls with those that were answered so
 abbrev pub with_answers : List MetaEntry → ℕ → List MetaAnswer → List MetaEntry

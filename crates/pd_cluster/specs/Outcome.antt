@@ -20,6 +20,7 @@ use Rattle.pd_cluster.specs.Answers.{Answer, answers_text}
 use Rattle.pd_cluster.specs.History.{IsSafe, windows_of}
 use Rattle.pd_cluster.specs.Replay.{State, answers_of, line_step, start, state_after}
 use Rattle.pd_cluster.specs.RunOutcome.{RunsSafely, TellsRun}
+use Rattle.pd_cluster.specs.Sent.{HaveSafeSteps}
 use Rattle.pd_cluster.specs.declared.command.Command.{Command}
 use Rattle.pd_cluster.specs.declared.command.Command.TheVariants.{Replay, Run, Tso}
 use Rattle.pd_cluster.specs.declared.status.Status.{Status}
@@ -145,35 +146,50 @@ abbrev pub SafelyPrints : Mode → Script → (List ℕ → Type 0) → Type 0
 SafelyPrints ByLine script Writes = PrintsSafely script Writes
 SafelyPrints OnThreads script Writes = RunsSafely script Writes
 
--- the answers of a script are written in this way, or a text that has none: the line at fault, or the limit
-abbrev pub Prints : Mode → Result Script ScriptRefusal → (List ℕ → Type 0) → Type 0
-Prints mode (Ok script) Writes = SafelyPrints mode script Writes
-Prints mode (Err refusal) Writes = Writes (refusal_outcome refusal).text
+-- each line of the script has an answer, in the order of the lines; their text is written in this way; and the steps in them are safe
+pub record PrintsSafeSteps (script : Script) (Writes : List ℕ → Type 0) : Type 0 where
+  pub answers : List Answer
+  pub lines : map (λ (answer : Answer). answer.line) answers ≡ script.lines
+  pub printed : Writes (answers_text answers)
+  pub safe : HaveSafeSteps answers
+
+-- this is said of a script and of what is written of it; a text that is none has one line: the first at fault, or the limit
+abbrev pub Prints : (Script → (List ℕ → Type 0) → Type 0) → Result Script ScriptRefusal → (List ℕ → Type 0) → Type 0
+Prints Says (Ok script) Writes = Says script Writes
+Prints Says (Err refusal) Writes = Writes (refusal_outcome refusal).text
 
 -- the same, where the text that was read may be too long
-abbrev pub PrintsUnless : Mode → Bool → Result Script ScriptRefusal → (List ℕ → Type 0) → Type 0
-PrintsUnless mode true read Writes = Writes limit_bytes.text
-PrintsUnless mode false read Writes = Prints mode read Writes
+abbrev pub PrintsUnless : (Script → (List ℕ → Type 0) → Type 0) → Bool → Result Script ScriptRefusal → (List ℕ → Type 0) → Type 0
+PrintsUnless Says true read Writes = Writes limit_bytes.text
+PrintsUnless Says false read Writes = Prints Says read Writes
 
--- The headline: what is printed of the text that was taken are answers to its lines that grant no timestamp twice
-pub record GrantsNoneTwice (mode : Mode) (left_old left_new : Option (List ℕ)) (Writes : List ℕ → Type 0) : Type 0 where
+-- this is said of the text that was taken, read as a script of this mode, and of what is printed of it
+pub record IsPrinted (mode : Mode) (Says : Script → (List ℕ → Type 0) → Type 0) (left_old left_new : Option (List ℕ)) (Writes : List ℕ → Type 0) : Type 0 where
   pub text : List ℕ
   pub taken : Takes left_old left_new text
-  pub printed : PrintsUnless mode (nat_lt 16777216 (length text)) (script_of mode text) Writes
+  pub printed : PrintsUnless Says (nat_lt 16777216 (length text)) (script_of mode text) Writes
 
--- The headline by status: printed whole, or cut to a prefix by a fault of the sink or want of memory; nothing was printed after a
--- failed read, or where memory was wanting before that
-abbrev pub AnswersSafely : Mode → Status → Option (List ℕ) → Option (List ℕ) → Option (List ℕ) → Option (List ℕ) → Type 0
-AnswersSafely mode WriteFault left_old left_new held_old held_new = GrantsNoneTwice mode left_old left_new (WritesPrefix held_old held_new)
-AnswersSafely mode NoMemory left_old left_new held_old held_new = Keeps held_old held_new ⊎ GrantsNoneTwice mode left_old left_new (WritesPrefix held_old held_new)
-AnswersSafely mode ReadFault left_old left_new held_old held_new = Keeps held_old held_new
-AnswersSafely mode status left_old left_new held_old held_new = GrantsNoneTwice mode left_old left_new (Appends held_old held_new)
+-- The same by status: printed whole, or cut to a prefix by a fault of the sink or want of memory; nothing was printed after a failed
+-- read, or where memory was wanting before that
+abbrev pub EndsSaying : Mode → (Script → (List ℕ → Type 0) → Type 0) → Status → Option (List ℕ) → Option (List ℕ) → Option (List ℕ) → Option (List ℕ) → Type 0
+EndsSaying mode Says WriteFault left_old left_new held_old held_new = IsPrinted mode Says left_old left_new (WritesPrefix held_old held_new)
+EndsSaying mode Says NoMemory left_old left_new held_old held_new = Keeps held_old held_new ⊎ IsPrinted mode Says left_old left_new (WritesPrefix held_old held_new)
+EndsSaying mode Says ReadFault left_old left_new held_old held_new = Keeps held_old held_new
+EndsSaying mode Says status left_old left_new held_old held_new = IsPrinted mode Says left_old left_new (Appends held_old held_new)
 
--- the headline of a command; `tso` prints no answers
+-- The headline: what a command prints of the text that was taken are answers to its lines that grant no timestamp twice; `tso` prints
+-- no answers
 abbrev pub IsHeadline : Command → Status → Option (List ℕ) → Option (List ℕ) → Option (List ℕ) → Option (List ℕ) → Type 0
-IsHeadline Replay status left_old left_new held_old held_new = AnswersSafely ByLine status left_old left_new held_old held_new
-IsHeadline Run status left_old left_new held_old held_new = AnswersSafely OnThreads status left_old left_new held_old held_new
+IsHeadline Replay status left_old left_new held_old held_new = EndsSaying ByLine (SafelyPrints ByLine) status left_old left_new held_old held_new
+IsHeadline Run status left_old left_new held_old held_new = EndsSaying OnThreads (SafelyPrints OnThreads) status left_old left_new held_old held_new
 IsHeadline (Tso timestamp) status left_old left_new held_old held_new = Unit {0}
+
+-- The headline of placement steps: each that `replay` prints was sent by an entry of a driver's journal, and was safe there; the other
+-- commands print none
+abbrev pub IsStepHeadline : Command → Status → Option (List ℕ) → Option (List ℕ) → Option (List ℕ) → Option (List ℕ) → Type 0
+IsStepHeadline Replay status left_old left_new held_old held_new = EndsSaying ByLine PrintsSafeSteps status left_old left_new held_old held_new
+IsStepHeadline Run status left_old left_new held_old held_new = Unit {0}
+IsStepHeadline (Tso timestamp) status left_old left_new held_old held_new = Unit {0}
 
 -- a read that failed took no more than the limit; `tso` reads nothing, so that none fails
 abbrev pub IsUnread : Command → Option (List ℕ) → Option (List ℕ) → Type 0

@@ -1,11 +1,13 @@
 -- The answers of a script, a line after the other over the state that the lines before leave: the oracle's, a cluster for each driver,
--- whose journal is all that is known of it, and the metadata that the clusters share, whose calls are all that is known of it.
+-- whose journal is all that is known of it, the metadata that the clusters share, whose calls are all that is known of it, and the
+-- messages that wait for the stores that act.
+use Rattle.std.specs.FinMap as map
 use Rattle.std.specs.Prelude.{ℕ, ◌+◌, List, [], ◌∷◌, get_or, slice_set, replicate, nat_eq, Option, Some, None, if◌then◌else◌}
 use Rattle.pd_types.specs.declared.oracle.Actor.TheVariants.{Driver, Client}
 use Rattle.pd_types.specs.declared.request.Request.{Request}
 use Rattle.pd_types.specs.declared.request.Request.TheVariants.{Term, Retire}
 use Rattle.pd_script.specs.declared.act.Act.{Act}
-use Rattle.pd_script.specs.declared.act.Act.TheVariants.{Cell, Lead, Tick, Resign, Take, Tell, Hear, Read, Campaign, Save, Raise, Publish, Probe, Look, Arm, Draw, Ask}
+use Rattle.pd_script.specs.declared.act.Act.TheVariants.{Cell, Lead, Tick, Resign, Take, Tell, Hear, Read, Campaign, Save, Raise, Publish, Probe, Look, Arm, Draw, Ask, Pop}
 use Rattle.pd_script.specs.declared.act.Line.{Line}
 use Rattle.pd_script.specs.declared.script.Script.{Script}
 use Rattle.tso_model.specs.declared.view.Setup.{Setup}
@@ -20,18 +22,20 @@ use Rattle.tso_core.specs.declared.reply.Reply.TheVariants.{Won, Lost, Resigned,
 use Rattle.meta_store.specs.declared.record.MetaAnswer.{MetaAnswer}
 use Rattle.meta_store.specs.declared.record.MetaEntry.{MetaEntry}
 use Rattle.pd_state.specs.declared.entry.Entry.{Entry}
-use Rattle.pd_state.specs.Calls.{next_call}
-use Rattle.pd_state.specs.Legal.{first_reply}
+use Rattle.pd_state.specs.Calls.{most_calls, next_call}
+use Rattle.pd_state.specs.Legal.{first_reply, sends_by}
 use Rattle.pd_state.specs.State.{part_after}
+use Rattle.pd_state.specs.declared.reply.Reply.{Reply as Told}
 use Rattle.pd_cluster.specs.Metadata.{answers_to, with_answers}
 use Rattle.pd_script.specs.Scripts.{asker}
 use Rattle.pd_cluster.specs.Answers.{Answer, driver_in, opening_cell}
+use Rattle.pd_cluster.specs.Streams.{Waiting, left_by, oldest_in, waiting_for, with_messages}
 use Rattle.pd_cluster.specs.declared.lead.BegunLead.{BegunLead}
 use Rattle.pd_cluster.specs.declared.said.Said.{Said}
-use Rattle.pd_cluster.specs.declared.said.Said.TheVariants.{ByOracle, ByCluster}
+use Rattle.pd_cluster.specs.declared.said.Said.TheVariants.{ByOracle, ByCluster, Popped}
 
--- what a line does to the oracle; a `cell` line, which named the opening cell, answers that cell, and what is asked of a cluster
--- does nothing to the oracle
+-- what a line does to the oracle; a `cell` line, which named the opening cell, answers that cell, and what is asked of a cluster,
+-- or taken of what it sent, does nothing to the oracle
 abbrev pub act_step : Whole → Act → Stepped
 act_step w (Cell saved term) = record { reply = CellRead (record { saved = saved; term = term }); after = w }
 act_step w (Lead driver now) = lead_of w driver now
@@ -50,6 +54,7 @@ act_step w (Look client driver) = step_of w (Client client) (ToLook driver)
 act_step w (Arm client n) = step_of w (Client client) (ToArm n)
 act_step w (Draw client) = step_of w (Client client) ToDraw
 act_step w (Ask driver request) = record { reply = Nothing; after = w }
+act_step w (Pop store driver) = record { reply = Nothing; after = w }
 
 -- what the clusters keep: by the driver's number what each was asked and replied, and the calls of all of them to the metadata;
 -- all with the latest first
@@ -57,12 +62,13 @@ pub record Kept : Type 0 where
   pub journals : List (List Entry)
   pub metadata : List MetaEntry
 
--- the state: the oracle; how far each driver's lead by single steps is; and what the clusters keep. The leads and the journals go by
--- the driver's number, and their first places are nobody's.
+-- the state: the oracle; how far each driver's lead by single steps is; what the clusters keep; and what waits of the messages that they
+-- sent. The leads, the journals and the streams go by the driver's number, and their first places are nobody's.
 pub record State : Type 0 where
   pub oracle : Whole
   pub leads : List (Option BegunLead)
   pub kept : Kept
+  pub streams : List Waiting
 
 -- the moment of a line that begins a lead or is one, else 0
 abbrev pub moment_of : Act → ℕ
@@ -104,16 +110,22 @@ past_at journals driver = get_or journals driver []
 
 -- what the metadata answers to the calls of a request to a driver's cluster
 abbrev pub answers_at : Kept → ℕ → Request → List MetaAnswer
-answers_at kept driver request = answers_to (next_call (part_after (past_at kept.journals driver)) request) kept.metadata driver
+answers_at kept driver request =
+    answers_to (most_calls (part_after (past_at kept.journals driver)) request) (next_call (part_after (past_at kept.journals driver)) request) kept.metadata driver
 
--- the entry of a request to a driver's cluster: its reply is the first that applies over the entries before it and these answers
+-- the reply to a request to a driver's cluster: the first that applies over the entries before it and these answers
+abbrev pub replied : Kept → ℕ → Request → Told
+replied kept driver request = first_reply (part_after (past_at kept.journals driver)) request (record { answers = answers_at kept driver request })
+
+-- the entry of a request to a driver's cluster, with the steps that it sends
 abbrev pub served : Kept → ℕ → ℕ → Request → Entry
 served kept driver number request = record {
   actor = asker driver request;
   line = number;
   request = request;
   answers = answers_at kept driver request;
-  reply = first_reply (part_after (past_at kept.journals driver)) request (record { answers = answers_at kept driver request });
+  reply = replied kept driver request;
+  sends = sends_by driver (past_at kept.journals driver) request (replied kept driver request) (record { answers = answers_at kept driver request });
 }
 
 -- what the clusters keep with that entry, and with the calls that were answered
@@ -138,6 +150,15 @@ abbrev pub request_of : Act → Option (ℕ × Request)
 request_of (Ask driver request) = Some (driver, request)
 request_of _ = None
 
+-- whose message a line takes, and of which driver
+abbrev pub pop_of : Act → Option (ℕ × ℕ)
+pop_of (Pop store driver) = Some (store, driver)
+pop_of _ = None
+
+-- what waits of the messages of a driver's cluster
+abbrev pub waiting_at : State → ℕ → Waiting
+waiting_at state driver = get_or state.streams driver map.empty
+
 -- the lead of a driver
 abbrev pub lead_at : State → ℕ → Option BegunLead
 lead_at state driver = get_or state.leads driver None
@@ -147,7 +168,7 @@ lead_at state driver = get_or state.leads driver None
 abbrev pub oracle_turn : State → Line → ℕ → Stepped → Turned
 oracle_turn state line driver stepped = record {
   said = ByOracle stepped.reply;
-  after = record {
+  after = record state {
     oracle = stepped.after;
     leads = slice_set state.leads driver (lead_after line.act stepped.reply (lead_at state driver));
     kept = with_besides state.kept driver line.number (asked_besides line.act stepped.reply (lead_at state driver));
@@ -158,17 +179,32 @@ oracle_turn state line driver stepped = record {
 abbrev pub oracle_line : State → Line → Turned
 oracle_line state line = oracle_turn state line (driver_in line.actor) (act_step state.oracle line.act)
 
--- a line that asks something of a cluster, or one of the oracle
-abbrev pub line_by : State → Line → Option (ℕ × Request) → Turned
-line_by state line None = oracle_line state line
-line_by state line (Some asked) = record {
-  said = ByCluster (served state.kept asked.0 line.number asked.1).reply;
-  after = record state { kept = with_served state.kept asked.0 line.number asked.1 };
+-- a line that asks something of a cluster: the reply, and the steps of its entry are sent
+abbrev pub asked_line : State → ℕ → ℕ → Request → Turned
+asked_line state number driver request = record {
+  said = ByCluster (served state.kept driver number request).reply;
+  after = record state {
+    kept = with_served state.kept driver number request;
+    streams = slice_set state.streams driver (with_messages (waiting_at state driver) (served state.kept driver number request).sends);
+  };
 }
+
+-- a line in which a store takes a message: the oldest that waits for it of this driver's
+abbrev pub pop_line : State → ℕ → ℕ → Turned
+pop_line state store driver = record {
+  said = Popped (oldest_in (waiting_at state driver) store);
+  after = record state { streams = slice_set state.streams driver (left_by (waiting_at state driver) store) };
+}
+
+-- a line that asks something of a cluster, one in which a store takes a message, or one of the oracle
+abbrev pub line_by : State → Line → Option (ℕ × Request) → Option (ℕ × ℕ) → Turned
+line_by state line (Some asked) taken = asked_line state line.number asked.0 asked.1
+line_by state line None (Some taken) = pop_line state taken.0 taken.1
+line_by state line None None = oracle_line state line
 
 -- what a line does
 abbrev pub line_step : State → Line → Turned
-line_step state line = line_by state line (request_of line.act)
+line_step state line = line_by state line (request_of line.act) (pop_of line.act)
 
 -- the answers to lines, each over the state that the lines before it leave
 abbrev pub answers_from : State → List Line → List Answer
@@ -184,9 +220,18 @@ state_after state (line ∷ lines) = state_after (line_step state line).after li
 abbrev pub setup_of : Script → Setup
 setup_of script = record { drivers = script.drivers; clients = script.clients; cell = opening_cell script.lines }
 
--- the state before the first line
+-- so many drivers and clients before the first of these lines
+abbrev pub begun : ℕ → ℕ → List Line → State
+begun drivers clients lines = record {
+  oracle = opened (record { drivers = drivers; clients = clients; cell = opening_cell lines });
+  leads = replicate (drivers + 1) None;
+  kept = record { journals = replicate (drivers + 1) []; metadata = [] };
+  streams = replicate (drivers + 1) (waiting_for lines);
+}
+
+-- the state before the first line of a script
 abbrev pub start : Script → State
-start script = record { oracle = opened (setup_of script); leads = replicate (script.drivers + 1) None; kept = record { journals = replicate (script.drivers + 1) []; metadata = [] } }
+start script = begun script.drivers script.clients script.lines
 
 -- the answers to a script
 abbrev pub answers_of : Script → List Answer

@@ -1,13 +1,16 @@
 ghost use Rattle.std.specs.Prelude.{◌≡◌, Some};
 ghost use Rattle.pd_cluster.specs.Answers.{said_text};
 
+use pd_types::StepMsg;
 use std::fmt;
 
-/// What a line is answered, by the oracle or by a driver's cluster. It prints as the answer's text.
-#[derive(Debug, Drop, PartialEq, Eq)]
+/// What a line is answered: by the oracle or by a driver's cluster, or the message that a store took. It
+/// prints as the answer's text.
+#[derive(Debug, Drop, PartialEq)]
 pub enum Said {
     ByOracle(tso_core::Reply),
     ByCluster(pd_state::Reply),
+    Popped(Option<StepMsg>),
 }
 
 impl fmt::Display for Said {
@@ -17,6 +20,17 @@ impl fmt::Display for Said {
         match self {
             Said::ByOracle(reply) => write!(f, "{reply}"),
             Said::ByCluster(reply) => write!(f, "{reply}"),
+            Said::Popped(None) => write!(f, "empty"),
+            Said::Popped(Some(message)) => {
+                let StepMsg {
+                    term,
+                    entry,
+                    region,
+                    step,
+                    ..
+                } = message;
+                write!(f, "popped term {term} entry {entry} region {region} {step}")
+            }
         }
     }
 }

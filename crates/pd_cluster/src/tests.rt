@@ -41,7 +41,7 @@ fn expect<R: Threads + Wait + Sync + Abort>(
 }
 
 // Worked rows. In each line an act stands in front of `>` and its answer.
-const ROWS: [&str; 26] = [
+const ROWS: [&str; 31] = [
     "\
 lead 1 1000 > won term 1 lo 1000 hi 4000
 hello 1 1 1000 a1 > store put
@@ -230,6 +230,7 @@ hello 2 1 1000 a2 > store put
 hello 3 1 1000 a3 > store put
 beat 1 1 1000 7 - - 1 1 11 11:1:v,12:2:v,13:3:v > accepted removed 0 none
 rule 1 1000 {\"group_id\":\"pd\",\"id\":\"x\",\"role\":\"voter\",\"count\":1,\"start_key\":\"40\",\"color\":\"red\"} > rule set
+check 1 1000 7 > needs-split 40
 rule 1 1000 {\"group_id\":\"pd\",\"id\":\"x\",\"role\":\"voter\",\"count\":1,\"start_key\":\"40\",\"isolation_level\":\"zone\"} > bad-rule 10
 unrule 1 1000 pd y > absent
 unrule 1 1000 pd x > rule removed
@@ -245,6 +246,82 @@ unrule 2 501 pd default > rule removed
 unrule 2 502 pd x > last-rule
 lead 1 1002 > won term 3 lo 7002 hi 10002
 unrule 1 1003 pd default > absent",
+    // Equal totals, no fit.
+    "\
+lead 1 1000 > won term 1 lo 1000 hi 4000
+hello 1 1 1000 a1 zone=z1 > store put
+hello 2 1 1000 a2 zone=z2 > store put
+rule 1 1000 {\"group_id\":\"pd\",\"id\":\"A\",\"role\":\"voter\",\"count\":1,\"label_constraints\":[{\"key\":\"zone\",\"op\":\"in\",\"values\":[\"z1\"]}]} > rule set
+rule 1 1000 {\"group_id\":\"pd\",\"id\":\"B\",\"role\":\"voter\",\"count\":1,\"label_constraints\":[{\"key\":\"zone\",\"op\":\"in\",\"values\":[\"z1\"]}]} > rule set
+unrule 1 1000 pd default > rule removed
+beat 1 1 1000 7 - - 1 1 11 11:1:v,12:2:v > accepted removed 0 none
+check 1 1000 7 > no-plan from 2",
+    // A peer that is Down is replaced.
+    "\
+lead 1 1000 > won term 1 lo 1000 hi 4000
+hello 1 1 1000 a1 zone=z1 > store put
+hello 2 1 1000 a2 zone=z2 > store put
+hello 3 1 1000 a3 zone=z3 > store put
+hello 4 1 1000 a4 zone=z3 > store put
+beat 1 1 1000 7 - - 1 1 11 11:1:v,12:2:v,13:3:v > accepted removed 0 none
+alive 1 1 1801001 > alive
+alive 2 1 1801001 > alive
+alive 4 1 1801001 > alive
+check 1 1801001 7 > plan add-voter from 2 to 1 send add-learner peer 1000001 store 4
+pop 1 1 > popped term 1 entry 10 region 7 add-learner peer 1000001 store 4
+pop 1 1 > empty
+check 1 1801001 7 > plan add-voter from 2 to 1 busy 2
+patrol 1 1801001 4 > patrol regions 1 ok 0 split 0 plan 1 no-plan 0 added 0 buried 0
+beat 1 1 1801002 7 - - 2 1 11 11:1:v,12:2:v,13:3:v,1000001:4:l > accepted removed 0 send promote-learner peer 1000001 store 4
+beat 1 1 1801003 7 - - 3 1 11 11:1:v,12:2:v,13:3:v,1000001:4:v > accepted removed 0 done
+check 1 1801003 7 > plan remove from 1 to 0 send remove-peer peer 13 store 3
+beat 1 1 1801004 7 - - 4 1 11 11:1:v,12:2:v,1000001:4:v > accepted removed 0 done
+check 1 1801004 7 > no-fault
+check 1 1801004 8 > no-region
+check 2 1801004 7 > not-leading
+patrol 2 1801004 1 > not-leading",
+    // What waits for a store outlives its term; each store and each driver has its own.
+    "\
+pop 1 1 > empty
+lead 1 1000 > won term 1 lo 1000 hi 4000
+hello 1 1 1000 a1 > store put
+hello 2 1 1000 a2 > store put
+beat 1 1 1000 7 - - 1 1 11 11:1:v > accepted removed 0 none
+check 1 1000 7 > plan add-voter from 2 to 1 send add-learner peer 1000001 store 2
+beat 1 1 1001 7 - - 1 1 11 11:1:v > accepted removed 0 send add-learner peer 1000001 store 2
+lead 1 1801001 > won term 2 lo 1801001 hi 1804001
+beat 1 1 1801001 7 - - 2 1 11 11:1:v,1000001:2:l > accepted removed 0 none
+pop 2 1 > empty
+pop 1 2 > empty
+pop 1 1 > popped term 1 entry 5 region 7 add-learner peer 1000001 store 2
+pop 1 1 > popped term 1 entry 6 region 7 add-learner peer 1000001 store 2
+pop 1 1 > empty",
+    // Five stores in three zones, eight regions on three of them: nothing is to be done.
+    "\
+lead 1 1000 > won term 1 lo 1000 hi 4000
+hello 1 1 1000 s1 zone=z1 > store put
+hello 2 1 1000 s2 zone=z1 > store put
+hello 3 1 1000 s3 zone=z2 > store put
+hello 4 1 1000 s4 zone=z2 > store put
+hello 5 1 1000 s5 zone=z3 > store put
+beat 1 1 1000 1 - 20 1 1 11 11:1:v,12:3:v,13:5:v > accepted removed 0 none
+beat 1 1 1000 2 20 40 1 1 21 21:1:v,22:3:v,23:5:v > accepted removed 0 none
+beat 1 1 1000 3 40 60 1 1 31 31:1:v,32:3:v,33:5:v > accepted removed 0 none
+beat 1 1 1000 4 60 80 1 1 41 41:1:v,42:3:v,43:5:v > accepted removed 0 none
+beat 1 1 1000 5 80 a0 1 1 51 51:1:v,52:3:v,53:5:v > accepted removed 0 none
+beat 1 1 1000 6 a0 c0 1 1 61 61:1:v,62:3:v,63:5:v > accepted removed 0 none
+beat 1 1 1000 7 c0 e0 1 1 71 71:1:v,72:3:v,73:5:v > accepted removed 0 none
+beat 1 1 1000 8 e0 - 1 1 81 81:1:v,82:3:v,83:5:v > accepted removed 0 none
+patrol 1 1001 4 > patrol regions 8 ok 8 split 0 plan 0 no-plan 0 added 0 buried 0",
+    // A driver whose term is over has no ids.
+    "\
+lead 1 1000 > won term 1 lo 1000 hi 4000
+hello 1 1 1000 a1 > store put
+hello 2 1 1000 a2 > store put
+beat 1 1 1000 7 - - 1 1 11 11:1:v > accepted removed 0 none
+lead 2 500 > won term 2 lo 4001 hi 7001
+check 1 1000 7 > plan add-voter from 2 to 1 old-term 2
+patrol 1 1000 16 > patrol regions 1 ok 0 split 0 plan 1 no-plan 0 added 0 buried 0",
     "",
 ];
 
@@ -334,6 +411,54 @@ fn a_storm_of_refused_draws_moves_the_cursor_64_milliseconds(rt: HostRuntime) ->
     Ok(())
 }
 
+const BEAT: &str = "beat 1 1 1000 7 - - 1 1 11 11:1:v\n";
+
+// A region is checked, and its heartbeat comes 64 times more; then its store takes what waits for it.
+fn crowd(alloc: Global) -> Result<String, Fail> {
+    let mut script = String::new(alloc);
+    script.push_str("lead 1 1000\nhello 1 1 1000 a1\nhello 2 1 1000 a2\n")?;
+    write!(script, "{BEAT}check 1 1000 7\n")?;
+    for _ in 0..64 {
+        script.push_str(BEAT)?;
+    }
+    for _ in 0..65 {
+        script.push_str("pop 1 1\n")?;
+    }
+    write!(script, "{BEAT}pop 1 1\n")?;
+    Ok(script)
+}
+
+// Its answers: each heartbeat sends the step again. The 65th of the steps that are sent isn't kept.
+fn crowd_answers(alloc: Global) -> Result<String, Fail> {
+    let step = "add-learner peer 1000001 store 2";
+    let mut answers = String::new(alloc);
+    answers.push_str("1 won term 1 lo 1000 hi 4000\n2 store put\n3 store put\n")?;
+    writeln!(answers, "4 accepted removed 0 none")?;
+    writeln!(answers, "5 plan add-voter from 2 to 1 send {step}")?;
+    for line in 6u64..70 {
+        writeln!(answers, "{line} accepted removed 0 send {step}")?;
+    }
+    for entry in 5u64..69 {
+        let line = entry + 65;
+        writeln!(
+            answers,
+            "{line} popped term 1 entry {entry} region 7 {step}"
+        )?;
+    }
+    writeln!(answers, "134 empty\n135 accepted removed 0 send {step}")?;
+    writeln!(answers, "136 popped term 1 entry 70 region 7 {step}")?;
+    Ok(answers)
+}
+
+#[test]
+fn the_65th_message_is_not_kept(rt: HostRuntime) -> Result<(), Fail> {
+    let alloc = rt.alloc();
+    let script = crowd(alloc)?;
+    let answers = crowd_answers(alloc)?;
+    expect(&rt, alloc, script.as_str(), Status::Done, answers.as_str())?;
+    Ok(())
+}
+
 #[test]
 fn the_first_line_at_fault_or_limit_is_named(rt: HostRuntime) -> Result<(), Fail> {
     let rows = [
@@ -354,7 +479,7 @@ fn the_first_line_at_fault_or_limit_is_named(rt: HostRuntime) -> Result<(), Fail
             "line 2: reason 9\n",
         ),
         (
-            "lead 1 1000\ncheck 1 1000 7\n",
+            "lead 1 1000\nschedule 1 1000\n",
             Status::Refused,
             "line 2: reason 3\n",
         ),

@@ -2,7 +2,7 @@
 ghost use Rattle.std.specs.Prelude.{◌+◌, ◌≡◌, ◌≢◌, ◌≤◌, IfOk, IfNone, IfSome, IsErrOf, length, map, string_bytes};
 ghost use Rattle.std.specs.Io.KnownBytes.{Keeps};
 ghost use Rattle.pd_cluster.specs.Command.{command_of};
-ghost use Rattle.pd_cluster.specs.Outcome.{Asks, TellsParts, Ends, IsHeadline, IsOutcome, IsScriptRun, IsUnread, Leaves, Outcome, limit_bytes, limited_text, refusal_outcome, script_outcome, tso_outcome, usage};
+ghost use Rattle.pd_cluster.specs.Outcome.{Asks, TellsParts, Ends, IsHeadline, IsOutcome, IsScriptRun, IsStepHeadline, IsUnread, Leaves, Outcome, limit_bytes, limited_text, refusal_outcome, script_outcome, tso_outcome, usage};
 ghost use Rattle.pd_cluster.specs.Response.{Gives, HasEndCause, HasFailureCause, IsFinal, Responds, command_in, outcome_of};
 ghost use Rattle.pd_cluster.specs.RunOutcome.{TellsRun};
 ghost use Rattle.pd_cluster.specs.declared.status.Status.TheVariants.{ReadFault, WriteFault};
@@ -281,6 +281,9 @@ pub fn pd_top<R: Threads + Wait + Sync, S: Source, K: Sink, G: Gate + Sync>(
 
     // The headline: what was printed are answers to the lines that were read, and grants no timestamp twice.
     ensures history { IfSome (command_of (map string_bytes words.now)) (λ command. IsHeadline command result (S.left source.old) (S.left source.new) (K.held sink.old) (K.held sink.new)) }
+
+    // The headline of placement steps: each step that was printed was sent by an entry of a driver's journal, and was safe there.
+    ensures steps { IfSome (command_of (map string_bytes words.now)) (λ command. IsStepHeadline command result (S.left source.old) (S.left source.new) (K.held sink.old) (K.held sink.new)) }
 
     // What is asked of the source, however it ends.
     ensures asked { IfSome (command_of (map string_bytes words.now)) (λ command. Asks command (S.left source.old) (S.left source.new)) }

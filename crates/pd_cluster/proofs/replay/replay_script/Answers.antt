@@ -5,18 +5,24 @@ use Rattle.std.proofs.Common.{◌≡◌, ◌++◌, ℕ, List, ap, sym, subst, �
 use Rattle.std.proofs.lemmas.List.Elements.{All-head, All-rest, All-same}
 use Rattle.std.specs.Vec.Iter.{into_iter_items}
 use Rattle.tso_model.specs.declared.view.Setup.{Setup}
+use Rattle.tso_model.specs.Sound.{IsSetup}
 use Rattle.pd_script.specs.Lawful.{IsLawful, actor_in}
 use Rattle.pd_script.specs.declared.act.Line.{Line}
 use Rattle.pd_script.specs.declared.script.Mode.TheVariants.{Replay}
 use Rattle.pd_cluster.specs.Clusters.{state_of}
-use Rattle.pd_cluster.proofs.Histories.{all_asked, text_more}
+use Rattle.pd_cluster.proofs.Histories.{all_asked, is_setup, text_more}
 use Rattle.pd_cluster.proofs.Serving.{is_start}
 use Rattle.pd_cluster.proofs.replay.replay_script.Goals as goal
+
+pub new-requires : goal.new-requires
+new-requires c = record {
+  setup = subst (λ (ls : List Line). IsSetup (record { drivers = c.args.script.drivers; clients = c.args.script.clients; cell = opening_cell ls })) (sym c.as_slice.ensures.value) (is_setup Replay c.args.script c.requires.lawful);
+}
 
 pub loop-line-init : goal.loop-line-init
 loop-line-init c =
     let items : into_iter_items c.into_iter-line-iterator.result ≡ c.args.script.lines = c.into_iter-line-iterator.ensures.into_iter_gives.0 ∙ c.into_vec-line-items.ensures.value in
-    let began : state_of c.in_ok-replay.replay ≡ start c.args.script = is_start c.args.script (state_of c.in_ok-replay.replay) c.opening_cell-cell.result c.in_ok-replay.ensures.value (c.opening_cell-cell.ensures.value ∙ ap opening_cell c.as_slice.ensures.value) in
+    let began : state_of c.in_ok-replay.replay ≡ start c.args.script = is_start c.args.script (state_of c.in_ok-replay.replay) c.as_slice.result.now c.in_ok-replay.ensures.value c.as_slice.ensures.value in
     record {
       text = ap (λ (bs : List ℕ). bs ++ answers_text (answers_from (state_of c.in_ok-replay.replay) (into_iter_items c.into_iter-line-iterator.result))) c.new-text.ensures.bytes
           ∙ ap (λ (s : State). answers_text (answers_from s (into_iter_items c.into_iter-line-iterator.result))) began ∙ ap (λ (ls : List Line). answers_text (answers_from (start c.args.script) ls)) items;

@@ -1,5 +1,5 @@
 use Rattle.pd_cluster.proofs.Endings.{ends}
-use Rattle.pd_cluster.proofs.Headline.{headline}
+use Rattle.pd_cluster.proofs.Headline.{headline, step_headline}
 use Rattle.pd_cluster.proofs.Lawful.{safe_outcome}
 use Rattle.pd_cluster.proofs.top.pd_top.Goals as goal
 
@@ -15,3 +15,9 @@ returns-in-Ok-respond-clause-history g c =
     let r = c.in-Ok-respond.ensures.answered in
     rw (← c.of.ensures.value, c.in-Some.is)
     (headline c.in-Some.command r.text r.outcome _ _ r.taken r.lawful (safe_outcome c.in-Some.command r.text) _ _ _ c.write_out-in-Ok-respond.ensures.read (c.write_out-in-Ok-respond.ensures.written _ r.gives))
+
+pub returns-in-Ok-respond-clause-steps : goal.returns-in-Ok-respond-clause-steps
+returns-in-Ok-respond-clause-steps g c =
+    let r = c.in-Ok-respond.ensures.answered in
+    rw (← c.of.ensures.value, c.in-Some.is)
+    (step_headline c.in-Some.command r.text r.outcome _ _ r.taken r.lawful _ _ _ c.write_out-in-Ok-respond.ensures.read (c.write_out-in-Ok-respond.ensures.written _ r.gives))

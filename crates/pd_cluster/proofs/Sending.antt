@@ -1,0 +1,449 @@
+-- Each step that a replay prints was sent by an entry of its journals, which are legal, and is safe there.
+use Rattle.std.proofs.Common.{refl, ◌≡◌, ℕ, zero, suc, ◌+◌, ◌<◌, ◌≤◌, ◌⊎◌, inl, inr, Bool, true, false, cond, eqb, List, [], ◌∷◌, ◌++◌, length, length-append, length-set, map, max, get_or, replicate, set, append_assoc, ap, sym, ◌∙◌, subst, Option, Some, None, arith}
+use Rattle.std.specs.Prelude.{All, Contains, option_map}
+use Rattle.std.specs.List.{AllByRecursion}
+use Rattle.std.specs.FinMap as map
+use Rattle.std.specs.Ordering.{nat_cmp}
+use Rattle.std.proofs.lemmas.Bool.Decides.{nat_tests}
+use Rattle.pd_types.specs.declared.oracle.Actor.{Actor}
+use Rattle.pd_types.specs.declared.oracle.Actor.TheVariants.{Driver, Client, Store}
+use Rattle.pd_types.specs.declared.request.Request.{Request}
+use Rattle.pd_types.specs.declared.request.Request.TheVariants as ask
+use Rattle.pd_types.specs.declared.step.Step.{Step}
+use Rattle.pd_types.specs.declared.step.StepMsg.{StepMsg}
+use Rattle.meta_store.specs.Asked.{AreAsked}
+use Rattle.meta_store.specs.declared.record.MetaAnswer.{MetaAnswer}
+use Rattle.meta_store.specs.declared.record.MetaCall.{MetaCall}
+use Rattle.meta_store.specs.declared.record.MetaEntry.{MetaEntry}
+use Rattle.op_control.proofs.TableLemmas.{get-insert}
+use Rattle.pd_script.specs.Lawful.{IsLawful}
+use Rattle.pd_script.specs.declared.act.Act.{Act}
+use Rattle.pd_script.specs.declared.act.Act.TheVariants.{Ask, Pop}
+use Rattle.pd_script.specs.declared.act.Line.{Line}
+use Rattle.pd_state.specs.Calls.{most_calls, next_call}
+use Rattle.pd_state.specs.Gates.{IsSafeThere}
+use Rattle.pd_state.specs.Heard.{heard_of}
+use Rattle.pd_state.specs.Legal.{IsLegal, IsLegalAfter, sents_by, term_in}
+use Rattle.pd_state.specs.Sends.{message}
+use Rattle.pd_state.specs.Since.{since, since_by}
+use Rattle.pd_state.specs.State.{moment_of, part_after, part_of}
+use Rattle.pd_state.specs.declared.entry.Entry.{Entry}
+use Rattle.pd_state.specs.declared.heard.Heard.{Heard}
+use Rattle.pd_state.specs.declared.part.Part.{Part}
+use Rattle.pd_state.specs.declared.reply.Reply.{Reply}
+use Rattle.pd_state.specs.declared.sent.Sent.{Sent}
+use Rattle.pd_state.proofs.Few.{waits_few}
+use Rattle.pd_state.proofs.Gates.{gated}
+use Rattle.tso_outcome.proofs.Above.{to_map}
+use Rattle.pd_cluster.specs.Answers.{Answer, driver_in}
+use Rattle.pd_cluster.specs.Metadata.{answer_to, answers_from as calls_from, with_call}
+use Rattle.pd_cluster.specs.Replay.{Kept, State, Turned, act_step, answers_from, asked_besides, asked_line, lead_at, line_step, oracle_line, past_at, pop_line, served, state_after, waiting_at, with_besides, with_served}
+use Rattle.pd_state.specs.StepTold.{step_told}
+use Rattle.pd_cluster.specs.Sent.{IsSafeSaid, IsSafelySent, IsToldSafely, SendsSafely}
+use Rattle.pd_cluster.specs.Streams.{Waiting, first_of, has_room, messages_in, left_by, oldest_in, waiting_for, with_actor, with_actors, with_message, with_messages, without_first}
+use Rattle.pd_cluster.specs.declared.said.Said.{Said}
+use Rattle.pd_cluster.specs.declared.said.Said.TheVariants.{ByOracle, ByCluster, Popped}
+use Rattle.pd_state.proofs.Telling.{told_sent}
+
+-- THE ENTRIES ARE LEGAL
+-- the answers to calls that are made in turn, where no call comes behind so many
+answers_asked : (n : ℕ) (next : List MetaAnswer → Option MetaCall) (past : List MetaEntry) (driver most : ℕ) → ((before : List MetaAnswer) (call : MetaCall) → next before ≡ Some call → length before < most) → (before : List MetaAnswer) (o : Option MetaCall) → o ≡ next before → most ≤ length before + n
+    → AreAsked next before (calls_from n next past driver before o)
+answers_asked n next past driver most low before None is room = sym is
+answers_asked zero next past driver most low before (Some call) is room = absurd (let less = low before call (sym is) in omega (arith, less, room))
+answers_asked (suc n) next past driver most low before (Some call) is room =
+    let len = length-append before (answer_to past call ∷ []) in
+    (sym is, answers_asked n next (with_call past driver call) driver most low (before ++ answer_to past call ∷ []) (next (before ++ answer_to past call ∷ [])) refl (omega (arith, len, room)))
+
+served_legal : (kept : Kept) (d n : ℕ) (request : Request) → IsLegalAfter d (past_at kept.journals d) (served kept d n request)
+served_legal kept d n request =
+    let part = part_after (past_at kept.journals d) in
+    record {
+      reply_is = refl;
+      asked = answers_asked (most_calls part request) (next_call part request) kept.metadata d (most_calls part request) (waits_few part request) [] (next_call part request []) refl (omega arith);
+      sends_are = refl;
+    }
+
+-- WHAT AN ENTRY SENDS
+from_map : {A B : Type 0} (f : A → B) (xs : List A) (y : B) → Contains (map f xs) y → (x : A) × Contains xs x × (y ≡ f x)
+from_map f [] y has = absurd (let low = has.1 in omega (arith, low))
+from_map f (x ∷ xs) y (zero, low, same) = (x, (0, omega arith, refl), sym same)
+from_map f (x ∷ xs) y (suc k, low, same) =
+    let rest = from_map f xs y (k, omega (arith, low), same) in
+    (rest.0, (suc rest.1.0, omega (arith, rest.1.1), rest.1.2), rest.2)
+
+none_in : {A B : Type 0} (x : A) → Contains [] x → B
+none_in x has = absurd (let low = has.1 in omega (arith, low))
+
+-- what an entry that sends finds and leaves
+record HasParts (o : Option (List Entry)) (request : Request) (entry : Entry) : Type 0 where
+  before : Part
+  after : Part
+  stood : option_map part_of o ≡ Some before
+  stands : option_map part_of (since_by request entry o) ≡ Some after
+
+parts_of : (o : Option (List Entry)) (request : Request) (entry : Entry) (reply : Reply) (heard : Heard) (sent : Sent) → Contains (sents_by (option_map part_of o) request reply heard) sent → HasParts o request entry
+parts_of None request entry reply heard sent has = none_in sent has
+parts_of (Some es) (ask.Beat store moment beat) entry reply heard sent has = record { before = part_of es; after = part_of (entry ∷ es); stood = refl; stands = refl }
+parts_of (Some es) (ask.Check moment region) entry reply heard sent has = record { before = part_of es; after = part_of (entry ∷ es); stood = refl; stands = refl }
+parts_of (Some es) (ask.Patrol moment workers) entry reply heard sent has = record { before = part_of es; after = part_of (entry ∷ es); stood = refl; stands = refl }
+parts_of (Some es) (ask.Term term moment) entry reply heard sent has = none_in sent has
+parts_of (Some es) ask.Retire entry reply heard sent has = none_in sent has
+parts_of (Some es) (ask.Hello store moment address labels) entry reply heard sent has = none_in sent has
+parts_of (Some es) (ask.Alive store moment) entry reply heard sent has = none_in sent has
+parts_of (Some es) (ask.Rule moment json) entry reply heard sent has = none_in sent has
+parts_of (Some es) (ask.Unrule moment group id) entry reply heard sent has = none_in sent has
+
+all_has : {A : Type 0} (P : A → Type 0) (xs : List A) (x : A) → All P xs → Contains xs x → P x
+all_has P xs x all has = subst P has.2 (all has.0 x has.1)
+
+module _ (kept : Kept) (d n : ℕ) (request : Request) (legal : IsLegal d (past_at kept.journals d)) where
+  abbrev one : Entry
+  one = served kept d n request
+
+  abbrev past : List Entry
+  past = past_at kept.journals d
+
+  sends_safely : (m : StepMsg) → Contains one.sends m → SendsSafely past one m
+  sends_safely m has =
+      let from = from_map (message d (term_in (part_after past)) (length past + 1)) (sents_by (part_after past) request one.reply (heard_of one)) m has in
+      let parts = parts_of (since past) request one one.reply (heard_of one) from.0 from.1 in
+      record {
+        sent = has;
+        before = parts.before;
+        after = parts.after;
+        stood = parts.stood;
+        stands = parts.stands;
+        safe = all_has (IsSafeThere parts.before parts.after (max parts.before.clock (moment_of request))) one.sends m (gated d past one legal (served_legal kept d n request) parts.before parts.after parts.stood parts.stands) has;
+      }
+
+  record IsOwn (m : StepMsg) : Type 0 where
+    driver : m.driver ≡ d
+    sent : IsSafelySent (one ∷ past) m
+
+  own_sent : (m : StepMsg) → Contains one.sends m → IsOwn m
+  own_sent m has =
+      let from = from_map (message d (term_in (part_after past)) (length past + 1)) (sents_by (part_after past) request one.reply (heard_of one)) m has in
+      record {
+        driver = ap (λ (x : StepMsg). x.driver) from.2;
+        sent = record { later = []; entry = one; past = past; stands = refl; place = ap (λ (x : StepMsg). x.entry) from.2; safely = sends_safely m has };
+      }
+
+  own_told : (step : Step) → step_told one.reply ≡ Some step → IsToldSafely (one ∷ past) n one.reply step
+  own_told step is =
+      let among = told_sent (part_after past) request (heard_of one) step is in
+      let m : StepMsg = message d (term_in (part_after past)) (length past + 1) among.sent in
+      let has : Contains one.sends m = to_map (message d (term_in (part_after past)) (length past + 1)) (sents_by (part_after past) request one.reply (heard_of one)) among.sent among.here in
+      record { message = m; step_is = among.is; sent = record { later = []; entry = one; past = past; stands = refl; place = refl; safely = sends_safely m has }; line_is = refl; reply_is = refl }
+
+-- WHAT WAS SENT STAYS SENT
+later_sent : (more journal : List Entry) (m : StepMsg) → IsSafelySent journal m → IsSafelySent (more ++ journal) m
+later_sent more journal m s = record {
+  later = more ++ s.later;
+  entry = s.entry;
+  past = s.past;
+  stands = ap (λ (j : List Entry). more ++ j) s.stands ∙ sym (append_assoc more s.later (s.entry ∷ s.past));
+  place = s.place;
+  safely = s.safely;
+}
+
+later_told : (more journal : List Entry) (line : ℕ) (reply : Reply) (step : Step) → IsToldSafely journal line reply step → IsToldSafely (more ++ journal) line reply step
+unfolding later_sent
+later_told more journal line reply step t = record { message = t.message; step_is = t.step_is; sent = later_sent more journal t.message t.sent; line_is = t.line_is; reply_is = t.reply_is }
+
+-- each journal has more entries, or the same ones
+pub record Grows (old new : List (List Entry)) (d : ℕ) : Type 0 where
+  pub more : List Entry
+  pub is : past_at new d ≡ more ++ past_at old d
+
+abbrev pub AllGrow : List (List Entry) → List (List Entry) → Type 0
+AllGrow old new = (d : ℕ) → Grows old new d
+
+grows_none : (js : List (List Entry)) → AllGrow js js
+grows_none js d = record { more = []; is = refl }
+
+grows_on : (a b c : List (List Entry)) → AllGrow a b → AllGrow b c → AllGrow a c
+grows_on a b c first next d =
+    let one = first d in
+    let two = next d in
+    record { more = two.more ++ one.more; is = two.is ∙ ap (λ (j : List Entry). two.more ++ j) one.is ∙ sym (append_assoc two.more one.more (past_at a d)) }
+
+sent_grows : (old new : List (List Entry)) (d : ℕ) (m : StepMsg) → Grows old new d → IsSafelySent (past_at old d) m → IsSafelySent (past_at new d) m
+sent_grows old new d m g s = subst (λ (j : List Entry). IsSafelySent j m) (sym g.is) (later_sent g.more (past_at old d) m s)
+
+said_grows : (old new : List (List Entry)) → AllGrow old new → (line : Line) (answer : Answer) → IsSafeSaid (past_at old) line answer.said → IsSafeSaid (past_at new) line answer.said
+said_grows old new grows line answer = by answer.said
+  where
+    by : (said : Said) → IsSafeSaid (past_at old) line said → IsSafeSaid (past_at new) line said
+    by (ByOracle reply) h = tt
+    by (ByCluster reply) h = λ driver request step act told.
+        let g = grows driver in
+        subst (λ (j : List Entry). IsToldSafely j line.number reply step) (sym g.is) (later_told g.more (past_at old driver) line.number reply step (h driver request step act told))
+    by (Popped None) h = tt
+    by (Popped (Some m)) h = (h.0, sent_grows old new m.driver m (grows m.driver) h.1)
+
+-- A place of a list with one element in place of another: the new one, or what stood there
+put_at : {A : Type 0} (xs : List A) (d e : ℕ) (v any : A) → (get_or (set xs d v) e any ≡ get_or xs e any) ⊎ ((e ≡ d) × (get_or (set xs d v) e any ≡ v))
+put_at [] d e v any = inl refl
+put_at (x ∷ xs) zero zero v any = inr (refl, refl)
+put_at (x ∷ xs) zero (suc e) v any = inl refl
+put_at (x ∷ xs) (suc d) zero v any = inl refl
+put_at (x ∷ xs) (suc d) (suc e) v any = elim (put_at xs d e v any) [ inl same ↦ inl same | inr put ↦ inr (ap suc put.0, put.1) ]
+
+put_here : {A : Type 0} (xs : List A) (d : ℕ) (v any : A) → d < length xs → get_or (set xs d v) d any ≡ v
+put_here [] d v any low = absurd (omega (arith, low))
+put_here (x ∷ xs) zero v any low = refl
+put_here (x ∷ xs) (suc d) v any low = put_here xs d v any (omega (arith, low))
+
+-- THE MESSAGES THAT WAIT
+abbrev pub AllWait : (ℕ → StepMsg → Type 0) → Waiting → Type 0
+AllWait P waiting = (store : ℕ) (list : List StepMsg) → map.get waiting store ≡ Some list → AllByRecursion (P store) list
+
+all_more : {A : Type 0} (P Q : A → Type 0) (xs : List A) → ((x : A) → P x → Q x) → AllByRecursion P xs → AllByRecursion Q xs
+all_more P Q [] f all = tt
+all_more P Q (x ∷ xs) f all = (f x all.0, all_more P Q xs f all.1)
+
+all_push : {A : Type 0} (P : A → Type 0) (xs : List A) (x : A) → AllByRecursion P xs → P x → AllByRecursion P (xs ++ x ∷ [])
+all_push P [] x all one = (one, tt)
+all_push P (y ∷ xs) x all one = (all.0, all_push P xs x all.1 one)
+
+weaker_wait : (P Q : ℕ → StepMsg → Type 0) (waiting : Waiting) → ((store : ℕ) (m : StepMsg) → P store m → Q store m) → AllWait P waiting → AllWait Q waiting
+weaker_wait P Q waiting f all store list is = all_more (P store) (Q store) list (f store) (all store list is)
+
+some_list : (a b : List StepMsg) → Some a ≡ Some b → a ≡ b
+some_list a b h = cc
+
+same_key : (a b : ℕ) → eqb a b ≡ true → a ≡ b
+same_key a b h = grind (arith, nat_tests)
+
+insert_wait : (P : ℕ → StepMsg → Type 0) (waiting : Waiting) (k : ℕ) (list : List StepMsg) → AllWait P waiting → AllByRecursion (P k) list → AllWait P (map.insert waiting k list)
+insert_wait P waiting k list all one store found is = by (eqb store k) refl (sym (get-insert waiting k list store) ∙ is)
+  where
+    by : (t : Bool) → eqb store k ≡ t → cond t (Some list) (map.get waiting store) ≡ Some found → AllByRecursion (P store) found
+    by true key at = subst (λ (s : ℕ). AllByRecursion (P s) found) (sym (same_key store k key)) (subst (AllByRecursion (P k)) (some_list list found at) one)
+    by false key at = all store found at
+
+in_wait : (P : ℕ → StepMsg → Type 0) (waiting : Waiting) (store : ℕ) (o : Option (List StepMsg)) → map.get waiting store ≡ o → AllWait P waiting → AllByRecursion (P store) (messages_in o)
+in_wait P waiting store None is all = tt
+in_wait P waiting store (Some list) is all = all store list is
+
+message_wait : (P : ℕ → StepMsg → Type 0) (waiting : Waiting) (m : StepMsg) → AllWait P waiting → P m.to m → AllWait P (with_message waiting m)
+message_wait P waiting m all one = by (has_room (map.get waiting m.to))
+  where
+    by : (t : Bool) → AllWait P (cond t (map.insert waiting m.to (messages_in (map.get waiting m.to) ++ m ∷ [])) waiting)
+    by true = insert_wait P waiting m.to (messages_in (map.get waiting m.to) ++ m ∷ []) all (all_push (P m.to) (messages_in (map.get waiting m.to)) m (in_wait P waiting m.to (map.get waiting m.to) refl all) one)
+    by false = all
+
+messages_wait : (P : ℕ → StepMsg → Type 0) (waiting : Waiting) (ms : List StepMsg) → AllWait P waiting → AllByRecursion (λ (m : StepMsg). P m.to m) ms → AllWait P (with_messages waiting ms)
+messages_wait P waiting [] all sent = all
+messages_wait P waiting (m ∷ ms) all sent = messages_wait P (with_message waiting m) ms (message_wait P waiting m all sent.0) sent.1
+
+taken_wait : (P : ℕ → StepMsg → Type 0) (waiting : Waiting) (store : ℕ) (o : Option (List StepMsg)) → map.get waiting store ≡ o → AllWait P waiting → AllWait P (without_first o waiting store)
+taken_wait P waiting store None is all = all
+taken_wait P waiting store (Some []) is all = all
+taken_wait P waiting store (Some (m ∷ ms)) is all = insert_wait P waiting store ms all (all store (m ∷ ms) is).1
+
+first_waits : (P : ℕ → StepMsg → Type 0) (waiting : Waiting) (store : ℕ) (o : Option (List StepMsg)) → map.get waiting store ≡ o → AllWait P waiting → (m : StepMsg) → first_of o ≡ Some m → P store m
+first_waits P waiting store None is all m first = absurd cc
+first_waits P waiting store (Some []) is all m first = absurd cc
+first_waits P waiting store (Some (one ∷ ms)) is all m first = subst (P store) (let same : one ≡ m = cc in same) (all store (one ∷ ms) is).0
+
+actor_wait : (P : ℕ → StepMsg → Type 0) (waiting : Waiting) (actor : Option Actor) → AllWait P waiting → AllWait P (with_actor waiting actor)
+actor_wait P waiting None all = all
+actor_wait P waiting (Some (Driver driver)) all = all
+actor_wait P waiting (Some (Client client)) all = all
+actor_wait P waiting (Some (Store store)) all = insert_wait P waiting store [] all tt
+
+actors_wait : (P : ℕ → StepMsg → Type 0) (waiting : Waiting) (lines : List Line) → AllWait P waiting → AllWait P (with_actors waiting lines)
+actors_wait P waiting [] all = all
+actors_wait P waiting (line ∷ lines) all = actors_wait P (with_actor waiting line.actor) lines (actor_wait P waiting line.actor all)
+
+none_wait : (P : ℕ → StepMsg → Type 0) → AllWait P map.empty
+none_wait P store list is = absurd (let both : None ≡ Some list = sym (map.get-empty nat_cmp store) ∙ is in cc)
+
+-- WHAT HOLDS OF A STATE
+pub record IsWaiting (js : List (List Entry)) (d store : ℕ) (m : StepMsg) : Type 0 where
+  pub driver : m.driver ≡ d
+  pub to : m.to ≡ store
+  pub sent : IsSafelySent (past_at js d) m
+
+pub record IsSound (drivers : ℕ) (state : State) : Type 0 where
+  pub places : drivers < length state.kept.journals
+  pub legal : (d : ℕ) → IsLegal d (past_at state.kept.journals d)
+  pub waits : (d : ℕ) → AllWait (IsWaiting state.kept.journals d) (waiting_at state d)
+
+waiting_grows : (old new : List (List Entry)) (d store : ℕ) (m : StepMsg) → Grows old new d → IsWaiting old d store m → IsWaiting new d store m
+waiting_grows old new d store m g w = record { driver = w.driver; to = w.to; sent = sent_grows old new d m g w.sent }
+
+-- a request that is served
+module _ (kept : Kept) (d n : ℕ) (request : Request) (legal : (e : ℕ) → IsLegal e (past_at kept.journals e)) where
+  abbrev after : Kept
+  after = with_served kept d n request
+
+  abbrev behind_it : List Entry
+  behind_it = served kept d n request ∷ past_at kept.journals d
+
+  served_grows : AllGrow kept.journals after.journals
+  served_grows e = elim (put_at kept.journals d e behind_it []) [
+    | inl same ↦ record { more = []; is = same }
+    | inr put ↦ record { more = served kept d n request ∷ []; is = put.1 ∙ ap (λ (k : ℕ). served kept d n request ∷ past_at kept.journals k) (sym put.0) }
+  ]
+
+  served_all : (e : ℕ) → IsLegal e (past_at after.journals e)
+  served_all e = elim (put_at kept.journals d e behind_it []) [
+    | inl same ↦ subst (IsLegal e) (sym same) (legal e)
+    | inr put ↦ subst (λ (k : ℕ). IsLegal k (past_at after.journals e)) (sym put.0) (subst (IsLegal d) (sym put.1) (served_legal kept d n request, legal d))
+  ]
+
+  own_waits : (m : StepMsg) → d < length kept.journals → Contains (served kept d n request).sends m → IsWaiting after.journals d m.to m
+  own_waits m low has =
+      let own = own_sent kept d n request (legal d) m has in
+      record { driver = own.driver; to = refl; sent = subst (λ (j : List Entry). IsSafelySent j m) (sym (put_here kept.journals d behind_it [] low)) own.sent }
+
+all_each : {A : Type 0} (P : A → Type 0) (xs : List A) → ((x : A) → Contains xs x → P x) → AllByRecursion P xs
+all_each P [] f = tt
+all_each P (x ∷ xs) f = (f x (0, omega arith, refl), all_each P xs (λ y has. f y (suc has.0, omega (arith, has.1), has.2)))
+
+-- what a line leaves and prints
+record IsSoundTurn (drivers : ℕ) (state : State) (line : Line) (turned : Turned) : Type 0 where
+  sound : IsSound drivers turned.after
+  grows : AllGrow state.kept.journals turned.after.kept.journals
+  safe : IsSafeSaid (past_at turned.after.kept.journals) line turned.said
+
+module _ (drivers : ℕ) (state : State) (n d : ℕ) (actor : Option Actor) (request : Request) (s : IsSound drivers state) (low : d ≤ drivers) where
+  abbrev old_js : List (List Entry)
+  old_js = state.kept.journals
+
+  abbrev new_js : List (List Entry)
+  new_js = (with_served state.kept d n request).journals
+
+  abbrev sent_to : Waiting
+  sent_to = with_messages (waiting_at state d) (served state.kept d n request).sends
+
+  kept_waits : (e : ℕ) → AllWait (IsWaiting new_js e) (waiting_at state e)
+  kept_waits e = weaker_wait (IsWaiting old_js e) (IsWaiting new_js e) (waiting_at state e) (λ store m w. waiting_grows old_js new_js e store m (served_grows state.kept d n request s.legal e) w) (s.waits e)
+
+  new_waits : AllWait (IsWaiting new_js d) sent_to
+  new_waits = messages_wait (IsWaiting new_js d) (waiting_at state d) (served state.kept d n request).sends (kept_waits d)
+      (all_each (λ (m : StepMsg). IsWaiting new_js d m.to m) (served state.kept d n request).sends (λ m has. own_waits state.kept d n request s.legal m (let places = s.places in omega (arith, low, places)) has))
+
+  sent_waits : (e : ℕ) → (get_or (set state.streams d sent_to) e map.empty ≡ waiting_at state e) ⊎ ((e ≡ d) × (get_or (set state.streams d sent_to) e map.empty ≡ sent_to)) → AllWait (IsWaiting new_js e) (get_or (set state.streams d sent_to) e map.empty)
+  sent_waits e (inl same) = subst (AllWait (IsWaiting new_js e)) (sym same) (kept_waits e)
+  sent_waits e (inr put) = subst (AllWait (IsWaiting new_js e)) (sym put.1) (subst (λ (k : ℕ). AllWait (IsWaiting new_js k) sent_to) (sym put.0) new_waits)
+
+  asked_sound : IsSoundTurn drivers state (record { number = n; actor = actor; act = Ask d request }) (asked_line state n d request)
+  asked_sound =
+      let places = s.places in
+      let within : d < length old_js = omega (arith, low, places) in
+      let len = length-set old_js d (served state.kept d n request ∷ past_at old_js d) in
+      record {
+        sound = record {
+          places = omega (arith, places, len);
+          legal = served_all state.kept d n request s.legal;
+          waits = λ e. sent_waits e (put_at state.streams d e sent_to map.empty);
+        };
+        grows = served_grows state.kept d n request s.legal;
+        safe = λ driver other step act told.
+            let same : d ≡ driver = cc in
+            subst (λ (k : ℕ). IsToldSafely (past_at new_js k) n (served state.kept d n request).reply step) same
+            (subst (λ (j : List Entry). IsToldSafely j n (served state.kept d n request).reply step) (sym (put_here old_js d (served state.kept d n request ∷ past_at old_js d) [] within)) (own_told state.kept d n request (s.legal d) step told));
+      }
+
+module _ (drivers : ℕ) (state : State) (n store d : ℕ) (actor : Option Actor) (s : IsSound drivers state) where
+  abbrev js : List (List Entry)
+  js = state.kept.journals
+
+  abbrev left : Waiting
+  left = left_by (waiting_at state d) store
+
+  left_waits : (e : ℕ) → (get_or (set state.streams d left) e map.empty ≡ waiting_at state e) ⊎ ((e ≡ d) × (get_or (set state.streams d left) e map.empty ≡ left)) → AllWait (IsWaiting js e) (get_or (set state.streams d left) e map.empty)
+  left_waits e (inl same) = subst (AllWait (IsWaiting js e)) (sym same) (s.waits e)
+  left_waits e (inr put) = subst (AllWait (IsWaiting js e)) (sym put.1) (subst (λ (k : ℕ). AllWait (IsWaiting js k) left) (sym put.0) (taken_wait (IsWaiting js d) (waiting_at state d) store (map.get (waiting_at state d) store) refl (s.waits d)))
+
+  taken_safely : (o : Option StepMsg) → oldest_in (waiting_at state d) store ≡ o → IsSafeSaid (past_at js) (record { number = n; actor = actor; act = Pop store d }) (Popped o)
+  taken_safely None is = tt
+  taken_safely (Some m) is =
+      let w = first_waits (IsWaiting js d) (waiting_at state d) store (map.get (waiting_at state d) store) refl (s.waits d) m is in
+      ((λ i. Pop (sym w.to i) (sym w.driver i)), subst (λ (k : ℕ). IsSafelySent (past_at js k) m) (sym w.driver) w.sent)
+
+  pop_sound : IsSoundTurn drivers state (record { number = n; actor = actor; act = Pop store d }) (pop_line state store d)
+  pop_sound = record {
+    sound = record { places = s.places; legal = s.legal; waits = λ e. left_waits e (put_at state.streams d e left map.empty) };
+    grows = grows_none js;
+    safe = taken_safely (oldest_in (waiting_at state d) store) refl;
+  }
+
+-- what is asked besides
+besides_grows : (kept : Kept) (d n : ℕ) (o : Option Request) → ((e : ℕ) → IsLegal e (past_at kept.journals e)) → AllGrow kept.journals (with_besides kept d n o).journals
+besides_grows kept d n None legal = grows_none kept.journals
+besides_grows kept d n (Some request) legal = served_grows kept d n request legal
+
+besides_all : (kept : Kept) (d n : ℕ) (o : Option Request) → ((e : ℕ) → IsLegal e (past_at kept.journals e)) → (e : ℕ) → IsLegal e (past_at (with_besides kept d n o).journals e)
+besides_all kept d n None legal = legal
+besides_all kept d n (Some request) legal = served_all kept d n request legal
+
+besides_len : (kept : Kept) (d n : ℕ) (o : Option Request) → length (with_besides kept d n o).journals ≡ length kept.journals
+besides_len kept d n None = refl
+besides_len kept d n (Some request) = length-set kept.journals d (served kept d n request ∷ past_at kept.journals d)
+
+oracle_sound : (drivers : ℕ) (state : State) (line : Line) → IsSound drivers state → IsSoundTurn drivers state line (oracle_line state line)
+oracle_sound drivers state line s =
+    let d = driver_in line.actor in
+    let o = asked_besides line.act (act_step state.oracle line.act).reply (lead_at state d) in
+    let grows = besides_grows state.kept d line.number o s.legal in
+    record {
+      sound = record {
+        places = omega (arith, s.places, besides_len state.kept d line.number o);
+        legal = besides_all state.kept d line.number o s.legal;
+        waits = λ e. weaker_wait (IsWaiting state.kept.journals e) (IsWaiting (with_besides state.kept d line.number o).journals e) (waiting_at state e)
+            (λ store m w. waiting_grows state.kept.journals (with_besides state.kept d line.number o).journals e store m (grows e) w) (s.waits e);
+      };
+      grows = grows;
+      safe = tt;
+    }
+
+turn_sound : (drivers clients : ℕ) (state : State) (n : ℕ) (actor : Option Actor) (act : Act) → IsLawful drivers clients act → IsSound drivers state
+    → IsSoundTurn drivers state (record { number = n; actor = actor; act = act }) (line_step state (record { number = n; actor = actor; act = act }))
+turn_sound drivers clients state n actor (Ask d request) lawful s = asked_sound drivers state n d actor request s lawful.0.high
+turn_sound drivers clients state n actor (Pop store d) lawful s = pop_sound drivers state n store d actor s
+turn_sound drivers clients state n actor _ lawful s = oracle_sound drivers state _ s
+
+-- ALL LINES
+pub record IsPrinted (state : State) (lines : List Line) : Type 0 where
+  pub grows : AllGrow state.kept.journals (state_after state lines).kept.journals
+  pub legal : (d : ℕ) → IsLegal d (past_at (state_after state lines).kept.journals d)
+  pub safe : AllByRecursion (λ (answer : Answer). IsSafeSaid (past_at (state_after state lines).kept.journals) answer.line answer.said) (answers_from state lines)
+
+pub printed : (drivers clients : ℕ) (lines : List Line) (state : State) → AllByRecursion (λ (line : Line). IsLawful drivers clients line.act) lines → IsSound drivers state → IsPrinted state lines
+printed drivers clients [] state lawful s = record { grows = grows_none state.kept.journals; legal = s.legal; safe = tt }
+printed drivers clients (line ∷ lines) state lawful s =
+    let turn = turn_sound drivers clients state line.number line.actor line.act lawful.0 s in
+    let next : State = (line_step state line).after in
+    let rest = printed drivers clients lines next lawful.1 turn.sound in
+    record {
+      grows = grows_on state.kept.journals next.kept.journals (state_after next lines).kept.journals turn.grows rest.grows;
+      legal = rest.legal;
+      safe = (said_grows next.kept.journals (state_after next lines).kept.journals rest.grows line (record { line = line; said = (line_step state line).said }) turn.safe, rest.safe);
+    }
+
+-- before the first line
+all_same : {A : Type 0} (n : ℕ) (v any : A) (e : ℕ) → (get_or (replicate n v) e any ≡ v) ⊎ (get_or (replicate n v) e any ≡ any)
+all_same zero v any e = inr refl
+all_same (suc n) v any zero = inl refl
+all_same (suc n) v any (suc e) = all_same n v any e
+
+pub start_sound : (drivers : ℕ) (lines : List Line) (state : State) → length state.kept.journals ≡ drivers + 1 → state.kept.journals ≡ replicate (drivers + 1) [] → state.streams ≡ replicate (drivers + 1) (waiting_for lines) → IsSound drivers state
+start_sound drivers lines state len journals streams = record {
+  places = omega (arith, len);
+  legal = λ d. subst (IsLegal d) (sym (ap (λ (js : List (List Entry)). past_at js d) journals ∙ none d (all_same (drivers + 1) [] [] d))) tt;
+  waits = λ d. subst (AllWait (IsWaiting state.kept.journals d)) (sym (ap (λ (ws : List Waiting). get_or ws d map.empty) streams)) (by d (all_same (drivers + 1) (waiting_for lines) map.empty d));
+}
+  where
+    none : (d : ℕ) → (past_at (replicate (drivers + 1) []) d ≡ []) ⊎ (past_at (replicate (drivers + 1) []) d ≡ []) → past_at (replicate (drivers + 1) []) d ≡ []
+    none d (inl h) = h
+    none d (inr h) = h
+
+    by : (d : ℕ) → (get_or (replicate (drivers + 1) (waiting_for lines)) d map.empty ≡ waiting_for lines) ⊎ (get_or (replicate (drivers + 1) (waiting_for lines)) d map.empty ≡ map.empty)
+        → AllWait (IsWaiting state.kept.journals d) (get_or (replicate (drivers + 1) (waiting_for lines)) d map.empty)
+    by d (inl h) = subst (AllWait (IsWaiting state.kept.journals d)) (sym h) (actors_wait (IsWaiting state.kept.journals d) map.empty lines (none_wait (IsWaiting state.kept.journals d)))
+    by d (inr h) = subst (AllWait (IsWaiting state.kept.journals d)) (sym h) (none_wait (IsWaiting state.kept.journals d))

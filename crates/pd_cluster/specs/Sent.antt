@@ -1,0 +1,59 @@
+-- What is printed of placement steps: each step was sent by an entry of a driver's journal, and was safe there, whoever asked for it (PD, region heartbeats: a
+-- step is sent to a region's leader only while a majority of its voters is live, and stays so). Each journal has its latest entry first.
+use Rattle.std.specs.Prelude.{◌≡◌, ℕ, ◌+◌, max, List, ◌∷◌, ◌++◌, length, Some, None, All, Contains}
+use Rattle.pd_types.specs.declared.request.Request.{Request}
+use Rattle.pd_types.specs.declared.step.Step.{Step}
+use Rattle.pd_types.specs.declared.step.StepMsg.{StepMsg}
+use Rattle.pd_script.specs.declared.act.Act.TheVariants.{Ask, Pop}
+use Rattle.pd_script.specs.declared.act.Line.{Line}
+use Rattle.pd_state.specs.declared.entry.Entry.{Entry}
+use Rattle.pd_state.specs.declared.part.Part.{Part}
+use Rattle.pd_state.specs.declared.reply.Reply.{Reply}
+use Rattle.pd_state.specs.Gates.{IsSafeThere}
+use Rattle.pd_state.specs.Legal.{IsLegal}
+use Rattle.pd_state.specs.State.{moment_of, part_after}
+use Rattle.pd_state.specs.StepTold.{step_told}
+use Rattle.pd_cluster.specs.Answers.{Answer}
+use Rattle.pd_cluster.specs.declared.said.Said.{Said}
+use Rattle.pd_cluster.specs.declared.said.Said.TheVariants.{ByOracle, ByCluster, Popped}
+
+-- An entry behind these sent the message, and its step is safe there: by the heartbeat that its region stands with after the entry, the stores before it, and
+-- the clock with its moment, a majority of the region's voters is live before the step and after it, and its target is right
+pub record SendsSafely (past : List Entry) (entry : Entry) (message : StepMsg) : Type 0 where
+  pub sent : Contains entry.sends message
+  pub before : Part
+  pub after : Part
+  pub stood : part_after past ≡ Some before
+  pub stands : part_after (entry ∷ past) ≡ Some after
+  pub safe : IsSafeThere before after (max before.clock (moment_of entry.request)) message
+
+-- the entry of the journal that the message names, by its place from 1 on, sent it safely
+pub record IsSafelySent (journal : List Entry) (message : StepMsg) : Type 0 where
+  pub later : List Entry
+  pub entry : Entry
+  pub past : List Entry
+  pub stands : journal ≡ later ++ entry ∷ past
+  pub place : message.entry ≡ length past + 1
+  pub safely : SendsSafely past entry message
+
+-- the entry of a line, with this reply, sent this step safely
+pub record IsToldSafely (journal : List Entry) (line : ℕ) (reply : Reply) (step : Step) : Type 0 where
+  pub message : StepMsg
+  pub step_is : message.step ≡ step
+  pub sent : IsSafelySent journal message
+  pub line_is : sent.entry.line ≡ line
+  pub reply_is : sent.entry.reply ≡ reply
+
+-- what is printed for a line: a step that a cluster's answer tells was sent by the line's own entry, and a message that a store took by an entry of its driver
+abbrev pub IsSafeSaid : (ℕ → List Entry) → Line → Said → Type 0
+IsSafeSaid journals line (ByOracle reply) = Unit {0}
+IsSafeSaid journals line (ByCluster reply) =
+    (driver : ℕ) (request : Request) (step : Step) → line.act ≡ Ask driver request → step_told reply ≡ Some step → IsToldSafely (journals driver) line.number reply step
+IsSafeSaid journals line (Popped None) = Unit {0}
+IsSafeSaid journals line (Popped (Some message)) = (line.act ≡ Pop message.to message.driver) × IsSafelySent (journals message.driver) message
+
+-- The headline of steps, of the answers to a script: there are journals of the drivers, each legal, by which each printed step is safe
+pub record HaveSafeSteps (answers : List Answer) : Type 0 where
+  pub journals : ℕ → List Entry
+  pub legal : (driver : ℕ) → IsLegal driver (journals driver)
+  pub safe : All (λ answer. IsSafeSaid journals answer.line answer.said) answers
