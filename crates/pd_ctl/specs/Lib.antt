@@ -1,0 +1,9 @@
+pub mod Words
+pub mod Table
+pub mod Places
+pub mod Commands
+pub mod Trees
+pub mod Reports
+pub mod Texts
+pub mod Causes
+pub mod Printed
