@@ -11,3 +11,4 @@ mod RepairLemmas
 mod WordLemmas
 mod DoneLemmas
 pub mod TellLemmas
+pub mod OtherStores

@@ -1,4 +1,4 @@
-ghost use Rattle.std.specs.Prelude.{◌≡◌, ◌≢◌, ◌↔◌, ◌≤◌, ◌<◌, ◌∷◌, ℕ, true, false, List, [], length, sum, None, Contains, All, Any, IsTrue};
+ghost use Rattle.std.specs.Prelude.{◌≡◌, ◌≢◌, ◌↔◌, ◌≤◌, ◌<◌, ◌∷◌, ◌++◌, ℕ, true, false, List, [], length, map, sum, None, Contains, All, Any, IsTrue};
 ghost use Rattle.pd_types.specs.BeatCheck.{first_fault};
 ghost use Rattle.pd_types.specs.declared.region.Peer.{Peer};
 ghost use Rattle.pd_types.specs.declared.region.RegionBeat.{RegionBeat};
@@ -11,12 +11,13 @@ ghost use Rattle.op_step.specs.Carried.{HasNew, MayTake, left_by};
 ghost use Rattle.op_step.specs.Peers.{has_peer, has_store, is_target};
 ghost use Rattle.op_step.specs.Wishes.{may_lead};
 ghost use Rattle.rule_fit.specs.Ids.{AreApart};
+ghost use Rattle.rule_fit.specs.Isolation.{isolation_score};
 ghost use Rattle.rule_fit.specs.Suits.{counts_of, labels_of, satisfies_all};
 ghost use Rattle.rule_set.specs.InForce.{rules_at};
 ghost use Rattle.rule_checker.specs.Candidates.{IsCandidate, after_all, passes, pool, steps_of};
 ghost use Rattle.rule_checker.specs.Measure.{HasNumber};
 ghost use Rattle.rule_checker.specs.Plan.{IsVerdict};
-ghost use Rattle.rule_checker.specs.Ranks.{is_before, locations_for, place_of};
+ghost use Rattle.rule_checker.specs.Ranks.{is_before, locations_for, place_of, score_of};
 ghost use Rattle.rule_checker.specs.Repairs.{AreRepairs};
 ghost use Rattle.rule_checker.specs.Same.{SaysSame};
 ghost use Rattle.rule_checker.specs.declared.class.Class.{Class};
@@ -167,4 +168,21 @@ pub fn the_first_rule_gives_the_labels()
     ensures later { (rule : Rule) (rules : List Rule) (stores : List StoreEntry) (store : ℕ) →
         satisfies_all (labels_of store stores) rule.constraints ≡ false →
         locations_for (rule ∷ rules) stores store ≡ locations_for rules stores store }
+{}
+
+/// Beside which stores a candidate's isolation counts: for a new peer those of all the region's
+/// peers; for one that goes those of the others, and not its own.
+pub fn isolation_counts_the_other_stores()
+    ensures voter { (beat : RegionBeat) (rules : List Rule) (stores : List StoreEntry) (peer : Peer) →
+        score_of classes.AddVoter beat rules stores peer ≡
+        isolation_score stores peer.store (map (λ (one : Peer). one.store) beat.region.peers)
+        (locations_for rules stores peer.store) }
+    ensures learner { (beat : RegionBeat) (rules : List Rule) (stores : List StoreEntry) (peer : Peer) →
+        score_of classes.AddLearner beat rules stores peer ≡ score_of classes.AddVoter beat rules stores peer }
+    ensures goes { (beat : RegionBeat) (rules : List Rule) (stores : List StoreEntry) (peer : Peer)
+        (before behind : List Peer) → beat.region.peers ≡ before ++ peer ∷ behind →
+        All (λ (one : Peer). one.id ≢ peer.id) (before ++ behind) →
+        score_of classes.Remove beat rules stores peer ≡
+        isolation_score stores peer.store (map (λ (one : Peer). one.store) (before ++ behind))
+        (locations_for rules stores peer.store) }
 {}
