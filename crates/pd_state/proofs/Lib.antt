@@ -29,3 +29,7 @@ pub mod HeardLemmas
 pub mod RuleReplies
 pub mod RuleCalls
 pub mod RulesLeft
+pub mod FewIds
+pub mod NextFree
+pub mod PatrolAdds
+pub mod PatrolBuries

@@ -86,10 +86,10 @@ lives_same : (o : Option Operator) → LivesOn o o
 lives_same None = tt
 lives_same (Some a) = inl (record { region = refl; epoch = refl; kind = refl; steps = refl; priority = refl; created = refl; state = stays a.state a.state refl })
 
-tables_then : (x y z : Table) → AreLives x y → AreLives y z → AreLives x z
+pub tables_then : (x y z : Table) → AreLives x y → AreLives y z → AreLives x z
 tables_then x y z h k = λ region. lives_then (map.get x.last region) (map.get y.last region) (map.get z.last region) (h region) (k region)
 
-table_same : (table : Table) → AreLives table table
+pub table_same : (table : Table) → AreLives table table
 table_same table = λ region. lives_same (map.get table.last region)
 
 -- another operator of one region
@@ -219,7 +219,7 @@ added_lives : (table : Table) (op : NewOp) (now : ℕ) → AreLives table (added
 added_lives table op now = written_lives table.last op.region (created op now) (new_lives (map.get table.last op.region) (created op now) (stays Created Created refl))
 
 -- what adding an operator leaves
-abbrev WorkLives : Planning → Work → Type 0
+abbrev pub WorkLives : Planning → Work → Type 0
 WorkLives planning work = AreLives planning.operators work.planning.operators
 
 entered_lives : (around : Around) (op : NewOp) (beat : RegionBeat) (planning : Planning) → WorkLives planning (entered around op beat planning)
@@ -241,7 +241,7 @@ enter_lives around op beat planning at =
     (λ one then u. with_lives around op beat planning one))
     (λ none. entered_lives around op beat planning)
 
-add_lives : (fault : Option AddFault) (around : Around) (op : NewOp) (beat : RegionBeat) (planning : Planning) (at : Hearing) → Ends Work (WorkLives planning) (add_by fault around op beat planning at)
+pub add_lives : (fault : Option AddFault) (around : Around) (op : NewOp) (beat : RegionBeat) (planning : Planning) (at : Hearing) → Ends Work (WorkLives planning) (add_by fault around op beat planning at)
 add_lives (Some fault) around op beat planning at = table_same planning.operators
 add_lives None around op beat planning at = enter_lives around op beat planning at
 

@@ -18,3 +18,5 @@ pub mod Lives
 pub mod Clusters
 pub mod Steps
 pub mod Known
+pub mod NewIds
+pub mod Patrols

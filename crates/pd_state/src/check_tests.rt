@@ -1,201 +1,7 @@
 // The checker, the patrol and the operators that they add, by scripts with typed answers.
-use crate::Cluster;
-use meta_store::Meta;
-use pd_types::{
-    Actor, Bytes, Downs, Epoch, Ids, Label, Labels, NoMemory, Peer, Peers, Region, RegionBeat,
-    Request, Role, StepMsg, Text,
-};
-use std::alloc::Global;
-use std::process::Abort;
+use crate::scripts::Scene;
+use meta_store::store_key;
 use std::test::Fail;
-
-// The number that a word spells, or 0.
-fn number(word: Option<&str>) -> u64 {
-    word.unwrap_or("").parse().unwrap_or(0)
-}
-
-// A text of a word.
-fn text(alloc: Global, word: &str) -> Result<Text, NoMemory> {
-    Ok(Text::of(String::from_str(alloc, word)?))
-}
-
-// The key that a word spells in hexadecimal; `-` is the empty one.
-fn key(alloc: Global, word: Option<&str>) -> Result<Bytes, NoMemory> {
-    let found = pd_lines::key(alloc, word.unwrap_or("-").as_bytes())?;
-    Ok(found.unwrap_or(Bytes::new(alloc)))
-}
-
-// The peer that a word `id:store:role` stands for.
-fn peer(word: &str) -> Peer {
-    let mut parts = word.split(':');
-    let id = number(parts.next());
-    let store = number(parts.next());
-    let role = match parts.next() {
-        Some("l") => Role::Learner,
-        _ => Role::Voter,
-    };
-    Peer { id, store, role }
-}
-
-// `beat NOW R START END CONF VER LEADER PEERS [pending=PEER]`, as a store reports a region.
-fn beat(alloc: Global, rest: &str) -> Result<Request, NoMemory> {
-    let mut words = rest.split(' ');
-    let moment = number(words.next());
-    let id = number(words.next());
-    let start = key(alloc, words.next())?;
-    let end = key(alloc, words.next())?;
-    let conf_ver = number(words.next());
-    let version = number(words.next());
-    let leader = number(words.next());
-    let mut peers = Peers::new(alloc);
-    for word in words.next().unwrap_or("").split(',') {
-        peers.push(peer(word))?;
-    }
-    let mut pending = Ids::new(alloc);
-    if let Some(word) = words.next() {
-        pending.push(number(word.strip_prefix("pending=")))?;
-    }
-    let epoch = Epoch { conf_ver, version };
-    let region = Region {
-        id,
-        start,
-        end,
-        epoch,
-        peers,
-    };
-    let beat = RegionBeat {
-        region,
-        leader,
-        down: Downs::new(alloc),
-        pending,
-    };
-    Ok(Request::Beat {
-        store: 1,
-        moment,
-        beat,
-    })
-}
-
-// `hello S NOW ADDRESS [zone=VALUE]`.
-fn hello(alloc: Global, rest: &str) -> Result<Request, NoMemory> {
-    let mut words = rest.split(' ');
-    let store = number(words.next());
-    let moment = number(words.next());
-    let address = text(alloc, words.next().unwrap_or(""))?;
-    let mut labels = Labels::new(alloc);
-    if let Some((key, value)) = words.next().unwrap_or("").split_once('=') {
-        labels.push(Label {
-            key: text(alloc, key)?,
-            value: text(alloc, value)?,
-        })?;
-    }
-    Ok(Request::Hello {
-        store,
-        moment,
-        address,
-        labels,
-    })
-}
-
-// `rule NOW JSON`.
-fn rule(alloc: Global, rest: &str) -> Result<Request, NoMemory> {
-    let (moment, json) = rest.split_once(' ').unwrap_or((rest, ""));
-    Ok(Request::Rule {
-        moment: number(Some(moment)),
-        json: Bytes::of(Vec::from_slice(alloc, json.as_bytes())?),
-    })
-}
-
-// The request of two numbers, the moment and another one; of `unrule` the id of a rule of group `pd`.
-fn small(alloc: Global, kind: &str, rest: &str) -> Result<Request, NoMemory> {
-    let (first, second) = rest.split_once(' ').unwrap_or((rest, ""));
-    let moment = number(Some(first));
-    let other = number(Some(second));
-    Ok(match kind {
-        "term" => Request::Term {
-            term: moment,
-            moment: other,
-        },
-        "alive" => Request::Alive {
-            store: moment,
-            moment: other,
-        },
-        "check" => Request::Check {
-            moment,
-            region: other,
-        },
-        "patrol" => Request::Patrol { moment, workers: 1 },
-        "unrule" => Request::Unrule {
-            moment,
-            group: text(alloc, "pd")?,
-            id: text(alloc, second)?,
-        },
-        _ => Request::Retire,
-    })
-}
-
-// The request that a line stands for.
-fn request(alloc: Global, line: &str) -> Result<Request, NoMemory> {
-    let (kind, rest) = line.split_once(' ').unwrap_or((line, ""));
-    match kind {
-        "beat" => beat(alloc, rest),
-        "hello" => hello(alloc, rest),
-        "rule" => rule(alloc, rest),
-        _ => small(alloc, kind, rest),
-    }
-}
-
-// A cluster of driver 1 and its metadata.
-#[derive(Drop)]
-struct Scene {
-    cluster: Cluster,
-    meta: Meta,
-}
-
-impl Scene {
-    fn new(alloc: Global) -> Scene {
-        Scene {
-            cluster: Cluster::new(alloc, 1),
-            meta: Meta::new(alloc),
-        }
-    }
-
-    // Serves each line, whose answer stands behind ` => `.
-    fn play(&mut self, rt: &impl Abort, alloc: Global, lines: &str) -> Result<(), Fail> {
-        for line in lines.lines() {
-            let (asked, want) = line.split_once(" => ").unwrap_or((line, ""));
-            let request = request(alloc, asked)?;
-            let reply = self
-                .cluster
-                .serve(Actor::Driver(1), 7, request, &mut self.meta)?;
-            let reply = format!(in alloc; "{reply}")?;
-            assert_eq!(rt; reply.as_str(), want, "at {line}");
-        }
-        Ok(())
-    }
-
-    // The messages that were sent, a line for each.
-    fn sends(&self, alloc: Global) -> Result<String, Fail> {
-        let mut text = String::new(alloc);
-        for entry in self.cluster.journal().as_slice().iter() {
-            for message in entry.sends.as_slice().iter() {
-                let StepMsg {
-                    driver,
-                    term,
-                    entry,
-                    region,
-                    to,
-                    step,
-                } = *message;
-                let line = format!(in alloc;
-                    "{driver} to {to} term {term} entry {entry} region {region} {step}\n"
-                )?;
-                text.push_str(line.as_str())?;
-            }
-        }
-        Ok(text)
-    }
-}
 
 // A Down peer is replaced: the misfit numbers are 2, 1 and 0. The worked row of repair.
 const REPAIR: &str = "\
@@ -371,5 +177,62 @@ fn the_steps_of_a_repair_are_sent(rt: HostRuntime) -> Result<(), Fail> {
     scene.play(&rt, alloc, REPAIR)?;
     let sends = scene.sends(alloc)?;
     assert_eq!(rt; sends.as_str(), REPAIR_SENDS);
+    Ok(())
+}
+
+// An outdated driver's plans have no ids: the check's own, and the first of the patrol, which stops there
+// and looks no further for one.
+const TWO_PLANS: &str = "\
+term 1 1000 => term 1 stores 0 rules 1
+hello 1 1000 s1 => store put
+hello 2 1000 s2 => store put
+hello 3 1000 s3 => store put
+beat 1000 2 - 40 1 1 21 21:1:v,22:2:v => accepted removed 0 none
+beat 1000 3 40 - 1 1 31 31:1:v,32:2:v,33:9:l => accepted removed 0 none
+";
+
+const WITHOUT_IDS: &str = "\
+check 1000 2 => plan add-voter from 1 to 0 old-term 5
+patrol 1000 => patrol regions 2 ok 0 split 0 plan 2 no-plan 0 added 0 buried 0
+";
+
+#[test]
+fn an_outdated_driver_has_no_ids(rt: HostRuntime) -> Result<(), Fail> {
+    let alloc = rt.alloc();
+    let mut scene = Scene::new(alloc);
+    scene.play(&rt, alloc, TWO_PLANS)?;
+    scene.outdate()?;
+    scene.play(&rt, alloc, WITHOUT_IDS)?;
+    // The lead, three stores, the other lead, and one write of `id` for each of the two requests.
+    assert_eq!(rt; scene.meta.journal().len(), 7);
+    Ok(())
+}
+
+// An Offline store is buried where no region has a peer on it and the regions leave no key out; a
+// buried store is a tombstone then, also for the next term.
+const BURIAL: &str = "\
+term 2 1000 => term 2 stores 2 rules 1
+hello 1 1000 s1 => store put
+patrol 1000 => patrol regions 0 ok 0 split 0 plan 0 no-plan 0 added 0 buried 0
+beat 1000 7 - 80 1 1 11 11:1:v => accepted removed 0 none
+patrol 1000 => patrol regions 1 ok 0 split 0 plan 0 no-plan 1 added 0 buried 0
+beat 1000 8 80 - 1 1 81 81:1:v,82:8:l => accepted removed 0 none
+patrol 1000 => patrol regions 2 ok 0 split 0 plan 0 no-plan 2 added 0 buried 1
+hello 9 1000 s9 => tombstone
+hello 8 1000 s8 => store put
+patrol 1000 => patrol regions 2 ok 0 split 0 plan 0 no-plan 2 added 0 buried 0
+term 3 1000 => term 3 stores 3 rules 1
+hello 9 1000 s9 => tombstone
+";
+
+#[test]
+fn a_store_without_peers_is_buried(rt: HostRuntime) -> Result<(), Fail> {
+    let alloc = rt.alloc();
+    let mut scene = Scene::new(alloc);
+    for store in [8, 9] {
+        let key = store_key(alloc, store)?;
+        scene.keep(key.as_slice(), b"offline a -")?;
+    }
+    scene.play(&rt, alloc, BURIAL)?;
     Ok(())
 }

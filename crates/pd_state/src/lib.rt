@@ -19,6 +19,8 @@ mod planning;
 mod reply;
 mod rule_laws;
 mod rules;
+#[cfg(test)]
+mod scripts;
 mod sent;
 mod serve;
 mod stores;
@@ -27,7 +29,10 @@ mod tests;
 mod write;
 
 pub use adding::Adding;
-pub use check_laws::{each_sent_step_is_safe, operators_live_by_the_table};
+pub use check_laws::{
+    each_sent_step_is_safe, how_a_new_peer_gets_its_id, operators_live_by_the_table,
+    what_a_patrol_leaves,
+};
 pub use checking::CHECK_PRIORITY;
 pub use cluster::Cluster;
 pub use entry::{Entry, Journal};

@@ -1,143 +1,11 @@
+// The requests of stores and about rules, terms, and what the metadata keeps of them.
+use crate::scripts::{Scene, request};
 use crate::{Cluster, Reply};
-use meta_store::{Meta, MetaCall, MetaEntry, MetaVerdict, store_key};
-use pd_types::{
-    Actor, BeatFault, Bytes, Downs, Epoch, Ids, Labels, NoMemory, Peer, Region, RegionBeat,
-    Request, Role, Seq, Text,
-};
-use std::alloc::{AllocError, Global};
+use meta_store::{MetaCall, MetaEntry, MetaVerdict, store_key};
+use pd_types::{Actor, BeatFault, NoMemory, Request};
+use std::alloc::Global;
 use std::process::Abort;
 use std::test::Fail;
-
-// The number that a word spells, or 0.
-fn number(word: Option<&str>) -> u64 {
-    word.unwrap_or("").parse().unwrap_or(0)
-}
-
-// The key that a word stands for; `-` is the empty one.
-fn key(alloc: Global, word: Option<&str>) -> Result<Bytes, AllocError> {
-    match word {
-        None | Some("-") => Ok(Bytes::new(alloc)),
-        Some(word) => Ok(Bytes::of(Vec::from_slice(alloc, word.as_bytes())?)),
-    }
-}
-
-// A hello of a store without labels, whose address is `a`.
-fn hello(alloc: Global, store: u64, moment: u64) -> Result<Request, NoMemory> {
-    Ok(Request::Hello {
-        store,
-        moment,
-        address: Text::of(String::from_str(alloc, "a")?),
-        labels: Labels::new(alloc),
-    })
-}
-
-// A region heartbeat of store 1 with one voter, the peer 11.
-fn beat(alloc: Global, line: &str) -> Result<Request, NoMemory> {
-    let mut words = line.split(' ');
-    let moment = number(words.next());
-    let id = number(words.next());
-    let start = key(alloc, words.next())?;
-    let end = key(alloc, words.next())?;
-    let conf_ver = number(words.next());
-    let version = number(words.next());
-    let leader = number(words.next());
-    let mut peers = Seq::new(alloc);
-    peers.push(Peer {
-        id: 11,
-        store: 1,
-        role: Role::Voter,
-    })?;
-    let region = Region {
-        id,
-        start,
-        end,
-        epoch: Epoch { conf_ver, version },
-        peers,
-    };
-    let beat = RegionBeat {
-        region,
-        leader,
-        down: Downs::new(alloc),
-        pending: Ids::new(alloc),
-    };
-    Ok(Request::Beat {
-        store: 1,
-        moment,
-        beat,
-    })
-}
-
-// The request that a line stands for: its kind, and its numbers; of `rule` the text, and of `unrule`
-// the id of a rule of the group `pd`.
-fn request(alloc: Global, line: &str) -> Result<Request, NoMemory> {
-    let (kind, rest) = line.split_once(' ').unwrap_or((line, ""));
-    if kind == "beat" {
-        return beat(alloc, rest);
-    }
-    if kind == "rule" {
-        return Ok(Request::Rule {
-            moment: 1000,
-            json: Bytes::of(Vec::from_slice(alloc, rest.as_bytes())?),
-        });
-    }
-    if kind == "unrule" {
-        return Ok(Request::Unrule {
-            moment: 1000,
-            group: Text::of(String::from_str(alloc, "pd")?),
-            id: Text::of(String::from_str(alloc, rest)?),
-        });
-    }
-    let mut words = rest.split(' ');
-    let first = number(words.next());
-    let moment = number(words.next());
-    match kind {
-        "hello" => hello(alloc, first, moment),
-        "alive" => Ok(Request::Alive {
-            store: first,
-            moment,
-        }),
-        "term" => Ok(Request::Term {
-            term: first,
-            moment,
-        }),
-        _ => Ok(Request::Retire),
-    }
-}
-
-// What a cluster answers to a line, as it is printed.
-fn answer(
-    alloc: Global,
-    cluster: &mut Cluster,
-    meta: &mut Meta,
-    line: &str,
-) -> Result<String, NoMemory> {
-    let reply = cluster.serve(Actor::Store(1), 7, request(alloc, line)?, meta)?;
-    Ok(format!(in alloc; "{reply}")?)
-}
-
-// Serves each line, whose answer stands behind ` => `.
-fn serve_lines(
-    rt: &impl Abort,
-    alloc: Global,
-    cluster: &mut Cluster,
-    meta: &mut Meta,
-    lines: &str,
-) -> Result<(), Fail> {
-    for line in lines.lines() {
-        let (asked, want) = line.split_once(" => ").unwrap_or((line, ""));
-        let text = answer(alloc, cluster, meta, asked)?;
-        assert_eq!(rt; text.as_str(), want, "at {line}");
-    }
-    Ok(())
-}
-
-// The same, by a new cluster over metadata of its own.
-fn serve_all(rt: &impl Abort, alloc: Global, lines: &str) -> Result<Cluster, Fail> {
-    let mut meta = Meta::new(alloc);
-    let mut cluster = Cluster::new(alloc, 1);
-    serve_lines(rt, alloc, &mut cluster, &mut meta, lines)?;
-    Ok(cluster)
-}
 
 // A request, made once more where memory is wanting.
 fn asked(alloc: Global, line: &str) -> Result<Request, NoMemory> {
@@ -149,8 +17,8 @@ const EACH_KIND: &str = r#"term 1 1000
 hello 1 1000
 alive 1 1001
 beat 1002 7 - - 1 1 11
-rule {"group_id":"pd","id":"x","role":"voter","count":1}
-unrule x
+rule 1000 {"group_id":"pd","id":"x","role":"voter","count":1}
+unrule 1000 x
 retire"#;
 
 // Serves a request: it has its entry, or there is no memory for it, which leaves the journal, takes
@@ -158,24 +26,23 @@ retire"#;
 fn serve_whole(
     rt: &impl Abort,
     alloc: Global,
-    cluster: &mut Cluster,
-    meta: &mut Meta,
+    scene: &mut Scene,
     line: &str,
 ) -> Result<bool, Fail> {
-    let before = cluster.journal().len();
+    let before = scene.cluster.journal().len();
     let request = asked(alloc, line)?;
-    if cluster.serve(Actor::Store(1), 7, request, meta).is_ok() {
+    if scene.ask(Actor::Store(1), request).is_ok() {
         assert_eq!(rt;
-            cluster.journal().len(),
+            scene.cluster.journal().len(),
             before.saturating_add(1),
             "at {line}"
         );
         return Ok(true);
     }
-    assert!(rt; cluster.part().is_none(), "at {line}");
-    let later = cluster.serve(Actor::Store(1), 8, Request::Retire, meta);
+    assert!(rt; scene.cluster.part().is_none(), "at {line}");
+    let later = scene.ask(Actor::Store(1), Request::Retire);
     assert!(rt; later.is_err(), "after {line}");
-    assert_eq!(rt; cluster.journal().len(), before, "at {line}");
+    assert_eq!(rt; scene.cluster.journal().len(), before, "at {line}");
     Ok(false)
 }
 
@@ -184,16 +51,15 @@ fn serve_whole(
 #[test]
 fn a_request_without_memory_leaves_the_journal(rt: HostRuntime) -> Result<(), Fail> {
     let alloc = rt.alloc();
-    let mut meta = Meta::new(alloc);
-    let mut cluster = Cluster::new(alloc, 1);
+    let mut scene = Scene::new(alloc);
     for line in EACH_KIND.lines() {
-        if !serve_whole(&rt, alloc, &mut cluster, &mut meta, line)? {
+        if !serve_whole(&rt, alloc, &mut scene, line)? {
             break;
         }
     }
-    let is_whole = cluster.journal().len() == 7;
-    let mut later = Cluster::new(alloc, 2);
-    let reply = later.serve(Actor::Driver(2), 9, asked(alloc, "term 2 2000")?, &mut meta)?;
+    let is_whole = scene.cluster.journal().len() == 7;
+    scene.cluster = Cluster::new(alloc, 2);
+    let reply = scene.ask(Actor::Driver(2), asked(alloc, "term 2 2000")?)?;
     let Reply::Term {
         term,
         stores,
@@ -216,20 +82,12 @@ fn a_request_without_memory_leaves_the_journal(rt: HostRuntime) -> Result<(), Fa
 // The beginning of a term, stale and overlapping heartbeats, and one whose leader is no peer.
 const STALE_AND_OVERLAPPING: &str = "\
 term 1 1000 => term 1 stores 0 rules 1
-beat 1000 7 - @ 1 6 11 => accepted removed 0 none
-beat 1001 8 20 ` 1 5 11 => stale conf 1 version 6
-beat 1002 9 @ - 1 6 11 => accepted removed 0 none
+beat 1000 7 - 40 1 6 11 => accepted removed 0 none
+beat 1001 8 20 60 1 5 11 => stale conf 1 version 6
+beat 1002 9 40 - 1 6 11 => accepted removed 0 none
 beat 1003 10 - - 1 7 11 => accepted removed 2 none
 beat 1004 11 - - 1 8 51 => bad 5
 ";
-
-#[test]
-fn stale_and_overlapping_heartbeats(rt: HostRuntime) -> Result<(), Fail> {
-    let alloc = rt.alloc();
-    let cluster = serve_all(&rt, alloc, STALE_AND_OVERLAPPING)?;
-    assert_eq!(rt; cluster.journal().len(), 6);
-    Ok(())
-}
 
 // Three stores and a region, as the gate of operators finds them later.
 const THREE_STORES: &str = "\
@@ -244,8 +102,9 @@ alive 1 21001 => alive
 #[test]
 fn stores_say_hello_and_are_heard(rt: HostRuntime) -> Result<(), Fail> {
     let alloc = rt.alloc();
-    let cluster = serve_all(&rt, alloc, THREE_STORES)?;
-    let Some(part) = cluster.part() else {
+    let mut scene = Scene::new(alloc);
+    scene.play(&rt, alloc, THREE_STORES)?;
+    let Some(part) = scene.cluster.part() else {
         return Err(Fail::new("no term"));
     };
     assert_eq!(rt; part.clock, 21_001);
@@ -277,15 +136,6 @@ retire => not-leading
 alive 1 900 => not-leading
 ";
 
-#[test]
-fn a_cluster_is_made_anew_with_its_term(rt: HostRuntime) -> Result<(), Fail> {
-    let alloc = rt.alloc();
-    let cluster = serve_all(&rt, alloc, TERMS)?;
-    assert_eq!(rt; cluster.journal().len(), 17);
-    assert_eq!(rt; cluster.part().is_none(), true);
-    Ok(())
-}
-
 // The clock doesn't step back, and rises also with a heartbeat that is refused.
 const CLOCK: &str = "\
 term 1 1000 => term 1 stores 0 rules 1
@@ -296,8 +146,9 @@ alive 9 2000 => unknown-store
 #[test]
 fn the_clock_is_the_greatest_moment(rt: HostRuntime) -> Result<(), Fail> {
     let alloc = rt.alloc();
-    let cluster = serve_all(&rt, alloc, CLOCK)?;
-    let clock = cluster.part().map(|part| part.clock);
+    let mut scene = Scene::new(alloc);
+    scene.play(&rt, alloc, CLOCK)?;
+    let clock = scene.cluster.part().map(|part| part.clock);
     assert_eq!(rt; clock, Some(3000));
     Ok(())
 }
@@ -305,50 +156,26 @@ fn the_clock_is_the_greatest_moment(rt: HostRuntime) -> Result<(), Fail> {
 #[test]
 fn the_257th_store_is_refused(rt: HostRuntime) -> Result<(), Fail> {
     let alloc = rt.alloc();
-    let mut meta = Meta::new(alloc);
-    let mut cluster = Cluster::new(alloc, 1);
-    let begin = Request::Term {
-        term: 1,
-        moment: 1000,
-    };
-    cluster.serve(Actor::Driver(1), 1, begin, &mut meta)?;
+    let mut scene = Scene::new(alloc);
+    scene.play(&rt, alloc, "term 1 1000 => term 1 stores 0 rules 1")?;
     for store in 1..258u64 {
-        let want = if store < 257 {
-            Reply::StorePut
-        } else {
-            Reply::Limit
-        };
-        let reply = cluster.serve(
-            Actor::Store(store),
-            2,
-            hello(alloc, store, 1000)?,
-            &mut meta,
-        )?;
-        assert_eq!(rt; reply, want, "at {store}");
+        let want = if store < 257 { "store put" } else { "limit" };
+        let line = format!(in alloc; "hello {store} 1000")?;
+        let text = scene.answer(alloc, line.as_str())?;
+        assert_eq!(rt; text.as_str(), want, "at {store}");
     }
     Ok(())
-}
-
-// Puts a record behind the cluster's back, as driver 2.
-fn keep(meta: &mut Meta, key: &[u8], bytes: &[u8]) -> Result<(), Fail> {
-    match meta.put_if(2, 1, key, 0, bytes) {
-        Ok(_) => Ok(()),
-        Err(_) => Err(Fail::new("a record wasn't put")),
-    }
 }
 
 #[test]
 fn a_term_begins_with_256_of_the_stores_that_were_kept(rt: HostRuntime) -> Result<(), Fail> {
     let alloc = rt.alloc();
-    let mut meta = Meta::new(alloc);
+    let mut scene = Scene::new(alloc);
     for store in 1..258u64 {
         let key = store_key(alloc, store)?;
-        keep(&mut meta, key.as_slice(), b"up a -")?;
+        scene.keep(key.as_slice(), b"up a -")?;
     }
-    let mut cluster = Cluster::new(alloc, 1);
-    let text = answer(alloc, &mut cluster, &mut meta, "term 1 1000")?;
-    assert_eq!(rt; text.as_str(), "term 1 stores 256 rules 1");
-    Ok(())
+    scene.play(&rt, alloc, "term 1 1000 => term 1 stores 256 rules 1")
 }
 
 // Rows of a kept record, its bytes, and what a term begins with. A record that doesn't read is passed
@@ -382,10 +209,9 @@ const KEPT: [(&str, &str, &str); 6] = [
 fn a_term_begins_with_the_records_that_read(rt: HostRuntime) -> Result<(), Fail> {
     let alloc = rt.alloc();
     for (key, bytes, want) in KEPT {
-        let mut meta = Meta::new(alloc);
-        keep(&mut meta, key.as_bytes(), bytes.as_bytes())?;
-        let mut cluster = Cluster::new(alloc, 1);
-        let text = answer(alloc, &mut cluster, &mut meta, "term 1 1000")?;
+        let mut scene = Scene::new(alloc);
+        scene.keep(key.as_bytes(), bytes.as_bytes())?;
+        let text = scene.answer(alloc, "term 1 1000")?;
         assert_eq!(rt; text.as_str(), want, "at {key} {bytes}");
     }
     Ok(())
@@ -393,28 +219,22 @@ fn a_term_begins_with_the_records_that_read(rt: HostRuntime) -> Result<(), Fail>
 
 // Rules are set and removed, and a new term knows them. The default rule is written with the first
 // other one; a rule that was never written is removed without a call.
-const RULES: &str = r#"rule {} => not-leading
+const RULES: &str = r#"rule 1000 {} => not-leading
 term 1 1000 => term 1 stores 0 rules 1
-rule {"group_id":"pd","id":"x","role":"voter","count":1,"start_key":"40","color":"red"} => rule set
-rule {"group_id":"pd","id":"x","role":"voter","count":1,"isolation_level":"zone"} => bad-rule 10
-rule {"group_id":"pd","id":"x"} => bad-rule 3
-unrule y => absent
+rule 1000 {"group_id":"pd","id":"x","role":"voter","count":1,"start_key":"40","color":"red"} => rule set
+rule 1000 {"group_id":"pd","id":"x","role":"voter","count":1,"isolation_level":"zone"} => bad-rule 10
+rule 1000 {"group_id":"pd","id":"x"} => bad-rule 3
+unrule 1000 y => absent
 term 2 1000 => term 2 stores 0 rules 2
-unrule x => rule removed
-unrule default => last-rule
+unrule 1000 x => rule removed
+unrule 1000 default => last-rule
 term 3 1000 => term 3 stores 0 rules 1
-rule {"group_id":"pd","id":"x","role":"learner","count":2} => rule set
-unrule default => rule removed
-unrule x => last-rule
+rule 1000 {"group_id":"pd","id":"x","role":"learner","count":2} => rule set
+unrule 1000 default => rule removed
+unrule 1000 x => last-rule
 term 4 1000 => term 4 stores 0 rules 1
-unrule default => absent
+unrule 1000 default => absent
 "#;
-
-#[test]
-fn rules_are_set_and_removed(rt: HostRuntime) -> Result<(), Fail> {
-    serve_all(&rt, rt.alloc(), RULES)?;
-    Ok(())
-}
 
 // The worked row of rules: after a lead, three stores and a region.
 const RULE_ROW: &str = r#"term 1 1000 => term 1 stores 0 rules 1
@@ -422,66 +242,67 @@ hello 1 1000 => store put
 hello 2 1000 => store put
 hello 3 1000 => store put
 beat 1000 7 - - 1 1 11 => accepted removed 0 none
-rule {"group_id":"pd","id":"x","role":"voter","count":1,"start_key":"40","color":"red"} => rule set
-rule {"group_id":"pd","id":"x","role":"voter","count":1,"start_key":"40","color":"red","isolation_level":"zone"} => bad-rule 10
-unrule y => absent
-unrule x => rule removed
-unrule default => last-rule
+rule 1000 {"group_id":"pd","id":"x","role":"voter","count":1,"start_key":"40","color":"red"} => rule set
+rule 1000 {"group_id":"pd","id":"x","role":"voter","count":1,"start_key":"40","color":"red","isolation_level":"zone"} => bad-rule 10
+unrule 1000 y => absent
+unrule 1000 x => rule removed
+unrule 1000 default => last-rule
 "#;
 
+// Each script by itself.
 #[test]
-fn the_row_of_rules(rt: HostRuntime) -> Result<(), Fail> {
-    serve_all(&rt, rt.alloc(), RULE_ROW)?;
+fn requests_are_answered(rt: HostRuntime) -> Result<(), Fail> {
+    let alloc = rt.alloc();
+    for lines in [STALE_AND_OVERLAPPING, TERMS, RULES, RULE_ROW] {
+        Scene::new(alloc).play(&rt, alloc, lines)?;
+    }
     Ok(())
 }
 
 // With 64 rules, `7` of the group `pd` among them, a rule of a new name is refused, and no other.
-const AT_THE_LIMIT: &str = r#"rule {"group_id":"pd","id":"7","role":"voter","count":2} => rule set
-rule {"group_id":"qd","id":"7","role":"voter","count":2} => rule-limit
-unrule 7 => rule removed
-rule {"group_id":"qd","id":"7","role":"voter","count":2} => rule set
+const AT_THE_LIMIT: &str =
+    r#"rule 1000 {"group_id":"pd","id":"7","role":"voter","count":2} => rule set
+rule 1000 {"group_id":"qd","id":"7","role":"voter","count":2} => rule-limit
+unrule 1000 7 => rule removed
+rule 1000 {"group_id":"qd","id":"7","role":"voter","count":2} => rule set
 "#;
 
 #[test]
 fn the_65th_rule_is_refused(rt: HostRuntime) -> Result<(), Fail> {
     let alloc = rt.alloc();
-    let mut meta = Meta::new(alloc);
-    let mut cluster = Cluster::new(alloc, 1);
-    answer(alloc, &mut cluster, &mut meta, "term 1 1000")?;
+    let mut scene = Scene::new(alloc);
+    scene.play(&rt, alloc, "term 1 1000 => term 1 stores 0 rules 1")?;
     for id in 1..65u64 {
         let want = if id < 64 { "rule set" } else { "rule-limit" };
         let line = format!(in alloc;
-            "rule {{\"group_id\":\"pd\",\"id\":\"{id}\",\"role\":\"voter\",\"count\":1}}"
+            "rule 1000 {{\"group_id\":\"pd\",\"id\":\"{id}\",\"role\":\"voter\",\"count\":1}}"
         )?;
-        let text = answer(alloc, &mut cluster, &mut meta, line.as_str())?;
+        let text = scene.answer(alloc, line.as_str())?;
         assert_eq!(rt; text.as_str(), want, "at {id}");
     }
-    serve_lines(&rt, alloc, &mut cluster, &mut meta, AT_THE_LIMIT)
+    scene.play(&rt, alloc, AT_THE_LIMIT)
 }
 
 // What a driver whose rule `x` is set is answered once it is outdated: a refused write leaves the rules.
 const LED: &str = r#"term 1 1000 => term 1 stores 0 rules 1
-rule {"group_id":"pd","id":"x","role":"voter","count":1} => rule set
+rule 1000 {"group_id":"pd","id":"x","role":"voter","count":1} => rule set
 "#;
 
-const OUTDATED: &str = r#"rule {"group_id":"pd","id":"x"} => bad-rule 3
-rule {"group_id":"pd","id":"y","role":"voter","count":1} => old-term 5
-unrule y => absent
-unrule x => old-term 5
-rule {"group_id":"pd","id":"x","role":"learner","count":1} => old-term 5
-unrule default => old-term 5
+const OUTDATED: &str = r#"rule 1000 {"group_id":"pd","id":"x"} => bad-rule 3
+rule 1000 {"group_id":"pd","id":"y","role":"voter","count":1} => old-term 5
+unrule 1000 y => absent
+unrule 1000 x => old-term 5
+rule 1000 {"group_id":"pd","id":"x","role":"learner","count":1} => old-term 5
+unrule 1000 default => old-term 5
 "#;
 
 #[test]
 fn rules_of_an_outdated_driver_are_refused(rt: HostRuntime) -> Result<(), Fail> {
     let alloc = rt.alloc();
-    let mut meta = Meta::new(alloc);
-    let mut cluster = Cluster::new(alloc, 1);
-    serve_lines(&rt, alloc, &mut cluster, &mut meta, LED)?;
-    let Ok(_) = meta.lead(2, 5) else {
-        return Err(Fail::new("no lead"));
-    };
-    serve_lines(&rt, alloc, &mut cluster, &mut meta, OUTDATED)
+    let mut scene = Scene::new(alloc);
+    scene.play(&rt, alloc, LED)?;
+    scene.outdate()?;
+    scene.play(&rt, alloc, OUTDATED)
 }
 
 // Whether a call wrote this key at this revision, with this verdict.
@@ -501,23 +322,22 @@ const X_KEY: &str = "rule/7064/78";
 
 // The first rule that is set is written behind the default rule, and later ones alone.
 const TWICE: &str = r#"term 1 1000 => term 1 stores 0 rules 1
-rule {"group_id":"pd","id":"x","role":"voter","count":1} => rule set
-rule {"group_id":"pd","id":"x","role":"voter","count":2} => rule set
+rule 1000 {"group_id":"pd","id":"x","role":"voter","count":1} => rule set
+rule 1000 {"group_id":"pd","id":"x","role":"voter","count":2} => rule set
 "#;
 
 #[test]
 fn the_default_rule_is_written_with_the_first_other_one(rt: HostRuntime) -> Result<(), Fail> {
     let alloc = rt.alloc();
-    let mut meta = Meta::new(alloc);
-    let mut cluster = Cluster::new(alloc, 1);
-    serve_lines(&rt, alloc, &mut cluster, &mut meta, TWICE)?;
+    let mut scene = Scene::new(alloc);
+    scene.play(&rt, alloc, TWICE)?;
     let rows = [
         (DEFAULT_KEY, 0, MetaVerdict::Accepted { revision: 1 }),
         (X_KEY, 0, MetaVerdict::Accepted { revision: 2 }),
         (X_KEY, 2, MetaVerdict::Accepted { revision: 3 }),
     ];
-    assert_eq!(rt; meta.journal().len(), 4);
-    for (entry, (key, revision, verdict)) in meta.journal().iter().skip(1).zip(rows) {
+    assert_eq!(rt; scene.meta.journal().len(), 4);
+    for (entry, (key, revision, verdict)) in scene.meta.journal().iter().skip(1).zip(rows) {
         assert!(rt;
             is_put(entry, key, revision, verdict),
             "at {key} {revision}"
@@ -529,56 +349,54 @@ fn the_default_rule_is_written_with_the_first_other_one(rt: HostRuntime) -> Resu
 // A record of the rule was written behind the cluster's back, so that the second write is refused;
 // the default rule stays stored, and the next rule is written alone.
 const SECOND_REFUSED: &str =
-    r#"rule {"group_id":"pd","id":"x","role":"voter","count":1} => conflict 1
-unrule x => absent
-unrule default => last-rule
-rule {"group_id":"pd","id":"y","role":"voter","count":1} => rule set
-unrule y => rule removed
+    r#"rule 1000 {"group_id":"pd","id":"x","role":"voter","count":1} => conflict 1
+unrule 1000 x => absent
+unrule 1000 default => last-rule
+rule 1000 {"group_id":"pd","id":"y","role":"voter","count":1} => rule set
+unrule 1000 y => rule removed
 term 2 1000 => term 2 stores 0 rules 2
 "#;
 
 #[test]
 fn a_refused_second_write_leaves_the_default_rule_stored(rt: HostRuntime) -> Result<(), Fail> {
     let alloc = rt.alloc();
-    let mut meta = Meta::new(alloc);
-    let mut cluster = Cluster::new(alloc, 1);
-    answer(alloc, &mut cluster, &mut meta, "term 1 1000")?;
+    let mut scene = Scene::new(alloc);
+    scene.play(&rt, alloc, "term 1 1000 => term 1 stores 0 rules 1")?;
     let (_, bytes, _) = KEPT[3];
-    keep(&mut meta, X_KEY.as_bytes(), bytes.as_bytes())?;
-    serve_lines(&rt, alloc, &mut cluster, &mut meta, SECOND_REFUSED)?;
+    scene.keep(X_KEY.as_bytes(), bytes.as_bytes())?;
+    scene.play(&rt, alloc, SECOND_REFUSED)?;
     // Two leads, the record behind the cluster's back, the two writes, that of `y`, and its deletion.
-    assert_eq!(rt; meta.journal().len(), 7);
+    assert_eq!(rt; scene.meta.journal().len(), 7);
     Ok(())
 }
 
 // Behind a refused write of the default rule none is made.
 const FIRST_REFUSED: &str =
-    r#"rule {"group_id":"pd","id":"x","role":"voter","count":1} => conflict 1
-unrule x => absent
+    r#"rule 1000 {"group_id":"pd","id":"x","role":"voter","count":1} => conflict 1
+unrule 1000 x => absent
 "#;
 
 #[test]
 fn a_refused_first_write_changes_nothing(rt: HostRuntime) -> Result<(), Fail> {
     let alloc = rt.alloc();
-    let mut meta = Meta::new(alloc);
-    let mut cluster = Cluster::new(alloc, 1);
-    answer(alloc, &mut cluster, &mut meta, "term 1 1000")?;
-    keep(&mut meta, DEFAULT_KEY.as_bytes(), b"-")?;
-    serve_lines(&rt, alloc, &mut cluster, &mut meta, FIRST_REFUSED)?;
+    let mut scene = Scene::new(alloc);
+    scene.play(&rt, alloc, "term 1 1000 => term 1 stores 0 rules 1")?;
+    scene.keep(DEFAULT_KEY.as_bytes(), b"-")?;
+    scene.play(&rt, alloc, FIRST_REFUSED)?;
     // The lead, the record behind the cluster's back, and the refused write.
-    assert_eq!(rt; meta.journal().len(), 3);
+    assert_eq!(rt; scene.meta.journal().len(), 3);
     Ok(())
 }
 
 #[test]
 fn a_stored_rule_stands_in_place_of_the_default_rule(rt: HostRuntime) -> Result<(), Fail> {
     let alloc = rt.alloc();
-    let mut meta = Meta::new(alloc);
+    let mut scene = Scene::new(alloc);
     let (key, bytes, _) = KEPT[3];
-    keep(&mut meta, key.as_bytes(), bytes.as_bytes())?;
-    let mut cluster = Cluster::new(alloc, 1);
-    answer(alloc, &mut cluster, &mut meta, "term 1 1000")?;
-    let id = match cluster
+    scene.keep(key.as_bytes(), bytes.as_bytes())?;
+    scene.play(&rt, alloc, "term 1 1000 => term 1 stores 0 rules 1")?;
+    let id = match scene
+        .cluster
         .part()
         .and_then(|part| part.rules.rules().as_slice().first())
     {
@@ -591,48 +409,35 @@ fn a_stored_rule_stands_in_place_of_the_default_rule(rt: HostRuntime) -> Result<
 
 // A write behind the cluster's back, and a later term: the cluster's own writes are refused, and a
 // term that is refused leaves none.
+const GUARDED: &str = "\
+hello 1 1000 => old-term 5
+alive 1 1000 => unknown-store
+term 3 1000 => old-term 5
+alive 1 1000 => not-leading
+";
+
 #[test]
 fn a_write_is_guarded_by_the_term_and_the_revision(rt: HostRuntime) -> Result<(), Fail> {
     let alloc = rt.alloc();
-    let mut meta = Meta::new(alloc);
-    let mut cluster = Cluster::new(alloc, 1);
-    answer(alloc, &mut cluster, &mut meta, "term 1 1000")?;
+    let mut scene = Scene::new(alloc);
+    scene.play(&rt, alloc, "term 1 1000 => term 1 stores 0 rules 1")?;
     let key = store_key(alloc, 1)?;
-    keep(&mut meta, key.as_slice(), b"up a -")?;
-    let text = answer(alloc, &mut cluster, &mut meta, "hello 1 1000")?;
-    assert_eq!(rt; text.as_str(), "conflict 1");
-    let Ok(_) = meta.lead(2, 5) else {
-        return Err(Fail::new("no lead"));
-    };
-    let rows = [
-        ("hello 1 1000", "old-term 5"),
-        ("alive 1 1000", "unknown-store"),
-        ("term 3 1000", "old-term 5"),
-        ("alive 1 1000", "not-leading"),
-    ];
-    for (line, want) in rows {
-        let text = answer(alloc, &mut cluster, &mut meta, line)?;
-        assert_eq!(rt; text.as_str(), want, "at {line}");
-    }
-    Ok(())
+    scene.keep(key.as_slice(), b"up a -")?;
+    scene.play(&rt, alloc, "hello 1 1000 => conflict 1")?;
+    scene.outdate()?;
+    scene.play(&rt, alloc, GUARDED)
 }
 
 #[test]
 fn an_entry_has_its_actor_line_and_request(rt: HostRuntime) -> Result<(), Fail> {
     let alloc = rt.alloc();
-    let mut meta = Meta::new(alloc);
-    let mut cluster = Cluster::new(alloc, 1);
-    cluster.serve(
-        Actor::Store(4),
-        9,
-        request(alloc, "alive 4 500")?,
-        &mut meta,
-    )?;
-    let Some(entry) = cluster.journal().as_slice().first() else {
+    let mut scene = Scene::new(alloc);
+    scene.ask(Actor::Store(4), request(alloc, "alive 4 500")?)?;
+    let Some(entry) = scene.cluster.journal().as_slice().first() else {
         return Err(Fail::new("no entry"));
     };
     assert_eq!(rt; entry.actor, Actor::Store(4));
-    assert_eq!(rt; entry.line, 9);
+    assert_eq!(rt; entry.line, 7);
     assert!(rt; entry.request == request(alloc, "alive 4 500")?);
     assert_eq!(rt; entry.reply, Reply::NotLeading);
     Ok(())
