@@ -33,3 +33,4 @@ pub mod FewIds
 pub mod NextFree
 pub mod PatrolAdds
 pub mod PatrolBuries
+pub mod Passing

@@ -1,5 +1,5 @@
 -- The id that a new peer gets is the next free one.
-use Rattle.std.proofs.Common.{refl, ◌≡◌, ◌≢◌, ◌⊎◌, inl, inr, ℕ, zero, suc, ◌+◌, ◌<◌, ◌≤◌, nat_eq, Bool, true, false, List, [], ◌∷◌, length, ap, sym, ◌∙◌, subst, Option, Some, None, arith}
+use Rattle.std.proofs.Common.{refl, ◌≡◌, ◌≢◌, ◌⊎◌, inl, inr, ℕ, suc, ◌+◌, ◌<◌, ◌≤◌, Bool, true, false, List, [], ◌∷◌, length, sym, subst, Option, Some, None, arith}
 use Rattle.std.proofs.lemmas.Bool.{cases_eq}
 use Rattle.std.proofs.lemmas.Bool.Decides.{nat_tests}
 use Rattle.std.specs.Prelude.{Result, Ok, Err}
@@ -14,7 +14,7 @@ use Rattle.op_control.specs.declared.table.AddFault.{AddFault}
 use Rattle.op_control.specs.Adding.{refusal_of, with_new_id}
 use Rattle.pd_state.specs.Adding.{Around, Drawn, Planning, Work, add_by, add_op, asks_id, draw, draw_saved, drawn, enter, entered, entered_with, free_id, left_out, pass_over, saved_by, with_window}
 use Rattle.pd_state.specs.Asking.{Asking, Hearing, Point, ask, done, ended}
-use Rattle.pd_state.specs.NewIds.{ArePeers, Comes, Enters, HasNewId, IsNextFree, LacksId}
+use Rattle.pd_state.specs.NewIds.{ArePeers, Comes, Enters, IsNextFree, LacksId}
 use Rattle.pd_state.specs.declared.adding.Adding.{Adding}
 use Rattle.pd_state.specs.declared.adding.Adding.TheVariants as adding
 use Rattle.pd_state.proofs.Ends.{Ends, ends_any, ends_if, ends_map, ends_on}

@@ -1,19 +1,15 @@
 -- What a patrol leaves of the operators.
-use Rattle.std.proofs.Common.{refl, ◌≡◌, ◌≢◌, ◌⊎◌, inl, inr, ℕ, zero, suc, ◌+◌, ◌<◌, ◌≤◌, nat_eq, nat_le, eqb, ◌||◌, not, Bool, true, false, cond, IsTrue, List, [], ◌∷◌, ◌++◌, length, is_some, ap, sym, ◌∙◌, subst, Option, Some, None, arith}
+use Rattle.std.proofs.Common.{refl, ◌≡◌, ◌≢◌, ◌⊎◌, inl, inr, ℕ, ◌+◌, ◌≤◌, nat_eq, nat_le, eqb, ◌||◌, not, Bool, true, false, cond, List, [], ◌∷◌, length, is_some, ap, sym, ◌∙◌, subst, Option, Some, None, arith}
 use Rattle.std.proofs.lemmas.Bool.{cases_eq, eq-eqb, ne_eqb}
 use Rattle.std.proofs.lemmas.Bool.Decides.{nat_tests}
 use Rattle.std.proofs.lemmas.List.Elements.{All-cons, All-nil}
 use Rattle.std.specs.FinMap as map
-use Rattle.std.specs.List.{All, list_any}
-use Rattle.std.specs.Ordering.{nat_cmp}
+use Rattle.std.specs.List.{All}
 use Rattle.std.specs.Prelude.{codes}
 use Rattle.pd_types.specs.declared.region.Epoch.{Epoch}
 use Rattle.pd_types.specs.declared.region.RegionBeat.{RegionBeat}
-use Rattle.pd_types.specs.declared.step.Step.{Step}
 use Rattle.store_limit.specs.declared.limits.Limited.{Limited}
-use Rattle.store_limit.specs.Limits.{StoreLimits}
 use Rattle.store_table.specs.declared.entry.StoreEntry.{StoreEntry}
-use Rattle.id_alloc.specs.Windows.{Window}
 use Rattle.op_control.specs.declared.operator.NewOp.{NewOp}
 use Rattle.op_control.specs.declared.operator.Operator.{Operator}
 use Rattle.op_control.specs.declared.table.TheConstants.{MOST_OPERATORS}
@@ -24,11 +20,11 @@ use Rattle.op_control.specs.Charging.{first_refused}
 use Rattle.op_control.specs.Table.{Table, active_at, active_by, dispatched, turned_by}
 use Rattle.op_control.specs.Turn.{turned}
 use Rattle.op_control.proofs.TableLemmas.{get-insert, same-insert}
-use Rattle.pd_state.specs.Adding.{Around, Drawn, Planning, Work, add_by, add_op, asks_id, enter, entered, entered_with, free_id, with_window}
+use Rattle.pd_state.specs.Adding.{Around, Planning, Work, add_op, asks_id}
 use Rattle.pd_state.specs.Asking.{Hearing, Point, done, ended, waits}
 use Rattle.pd_state.specs.Checking.{Round, check_op, first_round, is_busy, plans_in, round_after, stopped_round, sweep, visit}
 use Rattle.pd_state.specs.Lives.{AreLives}
-use Rattle.pd_state.specs.NewIds.{Comes, Enters, HasNewId, LacksId}
+use Rattle.pd_state.specs.NewIds.{Comes, Enters, LacksId}
 use Rattle.pd_state.specs.Patrols.{AddsOperators, Fate, IsChecks, IsLimit, at_limit, had_one, had_stopped, has_one, plans_region}
 use Rattle.pd_state.specs.declared.adding.Adding.{Adding}
 use Rattle.pd_state.specs.declared.adding.Adding.TheVariants as adding

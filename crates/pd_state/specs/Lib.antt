@@ -20,3 +20,4 @@ pub mod Steps
 pub mod Known
 pub mod NewIds
 pub mod Patrols
+pub mod Passing

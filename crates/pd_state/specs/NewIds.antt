@@ -4,7 +4,6 @@ use Rattle.pd_types.specs.declared.region.RegionBeat.{RegionBeat}
 use Rattle.id_alloc.specs.Windows.{is_used_up}
 use Rattle.op_step.specs.Peers.{has_id}
 use Rattle.op_control.specs.declared.operator.NewOp.{NewOp}
-use Rattle.op_control.specs.declared.table.AddFault.{AddFault}
 use Rattle.op_control.specs.Adding.{refusal_of, with_new_id}
 use Rattle.pd_state.specs.Adding.{Around, Planning, Work, asks_id, entered, left_out, with_window}
 use Rattle.pd_state.specs.declared.adding.Adding.{Adding}

@@ -1,5 +1,5 @@
 -- What a patrol leaves of the operators and of the stores, in words (PD's patrol of the regions; that it buries stores is our own choice).
-use Rattle.std.specs.Prelude.{◌≡◌, ◌⊎◌, ℕ, ◌+◌, ◌≤◌, nat_eq, ⊤, Bool, true, false, List, length, codes, filter, All, Some, None}
+use Rattle.std.specs.Prelude.{◌≡◌, ◌⊎◌, ℕ, ◌+◌, ◌≤◌, nat_eq, ⊤, Bool, true, false, List, length, codes, filter, All, Some}
 use Rattle.std.specs.FinMap as map
 use Rattle.std.specs.List.{list_any}
 use Rattle.pd_types.specs.declared.store.StoreState.{StoreState}

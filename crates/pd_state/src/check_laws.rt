@@ -1,7 +1,10 @@
 // What holds of the steps that a cluster sends, and of its checks and patrols.
 ghost use Rattle.std.specs.Prelude.{◌≡◌, ◌∷◌, ◌++◌, ℕ, List, Some};
 ghost use Rattle.op_control.specs.declared.operator.NewOp.{NewOp};
+ghost use Rattle.op_control.specs.declared.operator.Operator.{Operator};
+ghost use Rattle.op_control.specs.Table.{Table, active_at};
 ghost use Rattle.pd_types.specs.declared.region.RegionBeat.{RegionBeat};
+ghost use Rattle.store_table.specs.declared.entry.StoreEntry.{StoreEntry};
 ghost use Rattle.store_table.specs.Entries.{AreRising};
 ghost use Rattle.pd_state.specs.Adding.{Around, Planning, Work, add_op};
 ghost use Rattle.pd_state.specs.Asking.{Hearing, and_then, ended};
@@ -10,6 +13,7 @@ ghost use Rattle.pd_state.specs.Gates.{IsGated};
 ghost use Rattle.pd_state.specs.Legal.{IsLegal, IsLegalAfter};
 ghost use Rattle.pd_state.specs.Lives.{AreLives, GoesWith};
 ghost use Rattle.pd_state.specs.NewIds.{Comes};
+ghost use Rattle.pd_state.specs.Passing.{HasPassed};
 ghost use Rattle.pd_state.specs.Patrols.{Patrols};
 ghost use Rattle.pd_state.specs.State.{part_after};
 ghost use Rattle.pd_state.specs.declared.entry.Entry.{Entry};
@@ -32,6 +36,13 @@ pub fn operators_live_by_the_table()
     ensures lives { (past : List Entry) (entry : Entry) (before after : Part) →
         part_after past ≡ Some before → part_after (entry ∷ past) ≡ Some after →
         GoesWith entry.request → AreLives before.operators after.operators }
+{}
+
+/// What a heartbeat passes over of its region's operator: the steps that it shows as finished, from the
+/// current one on up to the first that it doesn't, and none of them comes again.
+pub fn finished_steps_are_passed_over()
+    ensures passed { (table : Table) (op : Operator) (beat : RegionBeat) (stores : List StoreEntry) (now : ℕ) →
+        active_at table beat.region.id ≡ Some op → HasPassed table op beat stores now }
 {}
 
 /// What comes of adding an operator, in words: where one of its tests fails nothing changes, and no id

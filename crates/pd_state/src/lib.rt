@@ -30,8 +30,8 @@ mod write;
 
 pub use adding::Adding;
 pub use check_laws::{
-    each_sent_step_is_safe, how_a_new_peer_gets_its_id, operators_live_by_the_table,
-    what_a_patrol_leaves,
+    each_sent_step_is_safe, finished_steps_are_passed_over, how_a_new_peer_gets_its_id,
+    operators_live_by_the_table, what_a_patrol_leaves,
 };
 pub use checking::CHECK_PRIORITY;
 pub use cluster::Cluster;
