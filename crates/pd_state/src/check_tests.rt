@@ -1,7 +1,13 @@
 // The checker, the patrol and the operators that they add, by scripts with typed answers.
-use crate::scripts::Scene;
+use crate::Part;
+use crate::scripts::{Scene, text};
 use meta_store::store_key;
+use op_control::{Dispatch, NewOp, Operators};
+use op_step::{Held, Why};
+use pd_types::{Step, Steps};
+use std::alloc::Global;
 use std::test::Fail;
+use store_limit::Limits;
 
 // A Down peer is replaced: the misfit numbers are 2, 1 and 0. The worked row of repair.
 const REPAIR: &str = "\
@@ -234,5 +240,62 @@ fn a_store_without_peers_is_buried(rt: HostRuntime) -> Result<(), Fail> {
         scene.keep(key.as_slice(), b"offline a -")?;
     }
     scene.play(&rt, alloc, BURIAL)?;
+    Ok(())
+}
+
+// Three voters, whose stores said hello at 1000.
+const THREE_VOTERS: &str = "\
+term 1 1000 => term 1 stores 0 rules 1
+hello 1 1000 a1 => store put
+hello 2 1000 a2 => store put
+hello 3 1000 a3 => store put
+beat 1000 7 - - 1 1 11 11:1:v,12:2:v,13:3:v => accepted removed 0 none
+";
+
+// What comes of an operator by hand that removes the peer 13, added and dispatched at the clock.
+fn removal(alloc: Global, part: &Part) -> Result<Dispatch, Fail> {
+    let Some(beat) = part.standing.regions().by_id(7) else {
+        return Err(Fail::new("the region isn't held"));
+    };
+    let mut steps = Steps::new(alloc);
+    steps.push(Step::RemovePeer { peer: 13, store: 3 })?;
+    let op = NewOp {
+        region: 7,
+        epoch: beat.region.epoch,
+        steps,
+        kind: text(alloc, "admin")?,
+        priority: 3,
+    };
+    let mut limits = Limits::new(alloc);
+    limits.know(3, part.clock)?;
+    let mut operators = Operators::new(alloc);
+    operators.add(op, Some(beat), &mut limits, part.clock)?;
+    Ok(operators.dispatch(beat, &part.stores, part.clock))
+}
+
+// The worked row of the gate: stores are live for 20 seconds. Where the first store alone is heard
+// again, the removal is sent at 21000, and held one millisecond later, as one voter of three is live.
+#[test]
+fn a_removal_is_held_by_the_clock(rt: HostRuntime) -> Result<(), Fail> {
+    let alloc = rt.alloc();
+    let held = Held {
+        live: 1,
+        voters: 3,
+        why: Why::Before,
+    };
+    let sent = Dispatch::Send(Step::RemovePeer { peer: 13, store: 3 });
+    let rows = [
+        ("alive 1 21000 => alive", sent),
+        ("alive 1 21001 => alive", Dispatch::Wait(held)),
+    ];
+    for (alive, wanted) in rows {
+        let mut scene = Scene::new(alloc);
+        scene.play(&rt, alloc, THREE_VOTERS)?;
+        scene.play(&rt, alloc, alive)?;
+        let Some(part) = scene.cluster.part() else {
+            return Err(Fail::new("the cluster has no term"));
+        };
+        assert_eq!(rt; removal(alloc, part)?, wanted, "{alive}");
+    }
     Ok(())
 }
