@@ -382,7 +382,7 @@ besides_all : (kept : Kept) (d n : ℕ) (o : Option Request) → ((e : ℕ) → 
 besides_all kept d n None legal = legal
 besides_all kept d n (Some request) legal = served_all kept d n request legal
 
-besides_len : (kept : Kept) (d n : ℕ) (o : Option Request) → length (with_besides kept d n o).journals ≡ length kept.journals
+pub besides_len : (kept : Kept) (d n : ℕ) (o : Option Request) → length (with_besides kept d n o).journals ≡ length kept.journals
 besides_len kept d n None = refl
 besides_len kept d n (Some request) = length-set kept.journals d (served kept d n request ∷ past_at kept.journals d)
 

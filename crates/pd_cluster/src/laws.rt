@@ -1,13 +1,17 @@
 // What the definitions of an outcome give, by themselves.
-ghost use Rattle.std.specs.Prelude.{◌≡◌, ◌<◌, ◌^◌, [], ◌∷◌, ◌++◌, ℕ, codes, map, Some, None, Ok};
+ghost use Rattle.std.specs.Prelude.{◌≡◌, ◌<◌, ◌≤◌, ◌+◌, ◌^◌, ◌↔◌, List, [], ◌∷◌, ◌++◌, ℕ, codes, length, map, Some, None, Ok};
 ghost use Rattle.std.specs.Fmt.{decimal};
 ghost use Rattle.pd_types.specs.declared.oracle.Actor.TheVariants.{Driver, Client};
 ghost use Rattle.pd_script.specs.declared.act.Act.TheVariants as acts;
+ghost use Rattle.pd_script.specs.declared.act.Line.{Line};
+ghost use Rattle.pd_script.specs.declared.script.Script.{Script};
 ghost use Rattle.pd_cluster.specs.Answers.{Answer};
 ghost use Rattle.pd_cluster.specs.Command.{command_of};
 ghost use Rattle.pd_cluster.specs.Number.{status_number};
 ghost use Rattle.pd_cluster.specs.Replay.{answers_of};
 ghost use Rattle.pd_cluster.specs.RunText.{post_line, reply_line, run_text, window_line};
+ghost use Rattle.pd_cluster.specs.Streams.{waiting_for};
+ghost use Rattle.pd_cluster.specs.Taking.{AreByStreams, AreInOrder, Event, events_at, kept_for, taken_by};
 ghost use Rattle.pd_cluster.specs.declared.command.Command.TheVariants.{Replay, Run, Tso};
 ghost use Rattle.pd_cluster.specs.declared.said.Said.TheVariants.{ByOracle};
 ghost use Rattle.pd_cluster.specs.declared.status.Status.TheVariants.{Done, Usage, Refused, ReadFault, WriteFault, NoMemory, Limit};
@@ -143,4 +147,13 @@ pub fn the_lines_of_a_run()
         ≡ decimal 2 ++ codes " line " ++ decimal 4 ++ codes " heard " ++ decimal 5 ++ codes " " ++ decimal 9 ++ codes "\n" }
     ensures nothing { post_line 3 (record { client = 7; line = 6; what = posted.Nothing })
         ≡ decimal 3 ++ codes " line " ++ decimal 6 ++ codes " nothing\n" }
+{}
+
+/// In which order stores take what a driver's cluster sends, for every list of sends and answers: the
+/// streams answer what is due and nothing else, and at most 64 messages wait. So do the answers of a
+/// replay, at each of its drivers.
+pub fn stores_take_the_oldest_message()
+    ensures order { (lines : List Line) → (events : List Event) → AreByStreams (waiting_for lines) events ↔ AreInOrder lines events }
+    ensures most { (lines : List Line) → (store : ℕ) → (events : List Event) → length (kept_for lines store events) ≤ length (taken_by store events) + 64 }
+    ensures replayed { (script : Script) → (driver : ℕ) → driver ≤ script.drivers → AreInOrder script.lines (events_at script driver) }
 {}
