@@ -1,0 +1,4 @@
+mod Pushing
+mod Keeping
+mod Sharing
+mod Two

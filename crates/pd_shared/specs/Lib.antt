@@ -1,0 +1,4 @@
+pub mod Names
+pub mod Outlets
+pub mod Kept
+pub mod Shares
