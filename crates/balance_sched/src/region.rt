@@ -96,8 +96,8 @@ fn fits_after(
     fits(alloc, on, &left, rules)
 }
 
-// Whether both stores and the region's peers allow the move.
-fn may_go(on: View, beat: &RegionBeat, one: &Move) -> bool
+/// Whether both stores and the region's peers allow the move.
+pub fn may_go(on: View, beat: &RegionBeat, one: &Move) -> bool
     ensures { result ≡ may_go on.entry.kind (tables_of on.entry.stores.now on.entry.standing.now on.entry.rules.now on.entry.busy.now on.entry.now) beat.now one.now }
 {
     on.stores.is_live(one.from, on.now)

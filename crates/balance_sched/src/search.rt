@@ -8,7 +8,7 @@ ghost use Rattle.balance_sched.specs.Tables.{count_of, tables_of};
 use crate::Move;
 use crate::case::{Case, View, count, counts, least};
 use crate::moves::{beats, is_source, proposal_of};
-use crate::region::{Target, fits, is_allowed, is_busy, target_at, targets_len};
+use crate::region::{Target, fits, is_allowed, is_busy, may_go, target_at, targets_len};
 use pd_types::{NoMemory, Proposal, RegionBeat, Rules};
 use std::alloc::Global;
 
@@ -124,7 +124,33 @@ fn best_of(alloc: Global, of: Idle, best: Option<Move>) -> Result<Option<Move>, 
     Ok(found)
 }
 
-// Whether the counts let a move of the region from the store go before what was found.
+// Whether the counts and the region's peers let the move from one store to another go before what was
+// found.
+fn may_reach(
+    on: Case,
+    beat: &RegionBeat,
+    from: u64,
+    have: u64,
+    target: Target,
+    best: Option<Move>,
+) -> bool
+    requires have { have ≡ count_of on.view.kind from on.view.standing.now }
+    requires count { target.count ≡ count_of on.view.kind target.store on.view.standing.now }
+    ensures { IsFalse result → LoseBetween on.entry.view.kind (tables_of on.entry.view.stores.now on.entry.view.standing.now on.entry.view.rules.now on.entry.view.busy.now on.entry.view.now) beat.now from target.store best }
+{
+    let one = Move {
+        region: beat.region.id,
+        from,
+        to: target.store,
+        difference: have.saturating_sub(target.count),
+    };
+    if one.difference < 2 || !beats(&one, best) {
+        return false;
+    }
+    may_go(on.view, beat, &one)
+}
+
+// Whether the counts and the region's peers let a move from the store go before what was found.
 fn may_win_from(on: Case, beat: &RegionBeat, from: u64, best: Option<Move>) -> bool
     ensures { IsFalse result → LoseFrom on.entry.view.kind (tables_of on.entry.view.stores.now on.entry.view.standing.now on.entry.view.rules.now on.entry.view.busy.now on.entry.view.now) beat.now from best }
 {
@@ -132,10 +158,21 @@ fn may_win_from(on: Case, beat: &RegionBeat, from: u64, best: Option<Move>) -> b
         return false;
     }
     let have = count(on.view.kind, on.view.standing, from);
-    can_win(best, beat.region.id, have.saturating_sub(on.least))
+    if !can_win(best, beat.region.id, have.saturating_sub(on.least)) {
+        return false;
+    }
+    for place in 0..targets_len(on, beat) {
+        let Some(target) = target_at(on, beat, place) else {
+            continue;
+        };
+        if may_reach(on, beat, from, have, target, best) {
+            return true;
+        }
+    }
+    false
 }
 
-// Whether the counts let a move of the region go before what was found.
+// Whether the counts and the peers let a move of the region go before what was found.
 fn may_win(on: Case, beat: &RegionBeat, best: Option<Move>) -> bool
     ensures { IsFalse result → AllLose on.entry.view.kind (tables_of on.entry.view.stores.now on.entry.view.standing.now on.entry.view.rules.now on.entry.view.busy.now on.entry.view.now) beat.now best }
 {
@@ -148,7 +185,7 @@ fn may_win(on: Case, beat: &RegionBeat, best: Option<Move>) -> bool
 }
 
 // What is found once a region is looked at. Its rules and its fit are looked at only where the counts
-// let it win.
+// and its peers let it win.
 fn best_with(
     alloc: Global,
     on: Case,
