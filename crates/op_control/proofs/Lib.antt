@@ -9,3 +9,4 @@ pub mod ToldLemmas
 pub mod IdLemmas
 pub mod RefusalLemmas
 pub mod StartLemmas
+pub mod NewLemmas

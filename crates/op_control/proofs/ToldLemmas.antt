@@ -48,7 +48,7 @@ next-left beat (one ∷ more) step rest e = next-step beat one more (is_finished
 left-behind : (op : Operator) (beat : RegionBeat) → drop (passed_by op beat) op.steps ≡ drop (finished_count beat (drop op.passed op.steps)) (drop op.passed op.steps)
 left-behind op beat = sym (drop-drop (finished_count beat (drop op.passed op.steps)) op.passed op.steps)
 
-is-next : (op : Operator) (beat : RegionBeat) (step : Step) (more : List Step) → drop (passed_by op beat) op.steps ≡ step ∷ more → IsNextStep step (drop (passed_by op beat) op.steps) beat
+pub is-next : (op : Operator) (beat : RegionBeat) (step : Step) (more : List Step) → drop (passed_by op beat) op.steps ≡ step ∷ more → IsNextStep step (drop (passed_by op beat) op.steps) beat
 is-next op beat step more here =
     subst (λ left. IsNextStep step left beat) (sym here) (refl, next-left beat (drop op.passed op.steps) step more (sym (left-behind op beat) ∙ here))
 

@@ -1,7 +1,8 @@
-ghost use Rattle.std.specs.Prelude.{◌≡◌, ◌≢◌, ◌+◌, ◌<◌, ◌≤◌, ℕ, List, [], ◌∷◌, length, Option, Some, None};
+ghost use Rattle.std.specs.Prelude.{◌≡◌, ◌≢◌, ◌+◌, ◌<◌, ◌≤◌, ℕ, false, List, [], ◌∷◌, length, take, drop, Option, Some, None, All, IsTrue};
 ghost use Rattle.pd_types.specs.declared.region.RegionBeat.{RegionBeat};
 ghost use Rattle.pd_types.specs.declared.step.Step.{Step};
 ghost use Rattle.pd_types.specs.declared.step.Step.TheVariants as steps;
+ghost use Rattle.op_step.specs.Finished.{is_finished};
 ghost use Rattle.store_table.specs.declared.entry.StoreEntry.{StoreEntry};
 ghost use Rattle.store_limit.specs.declared.limits.LimitKind.TheVariants as kinds;
 ghost use Rattle.store_limit.specs.declared.limits.Limited.{Limited};
@@ -14,7 +15,7 @@ ghost use Rattle.op_control.specs.declared.turn.Dispatch.TheVariants as dispatch
 ghost use Rattle.op_control.specs.Table.{Table, active_at};
 ghost use Rattle.op_control.specs.Turn.{answer_of, conf_changes, turned};
 ghost use Rattle.op_control.specs.Charging.{after_charges, first_refused};
-ghost use Rattle.op_control.specs.Adding.{added, refusal_of, with_new_id};
+ghost use Rattle.op_control.specs.Adding.{added, created, refusal_of, with_new_id};
 
 use crate::{EXPIRED_MS, MOST_OPERATORS, TIMEOUT_MS};
 
@@ -121,4 +122,32 @@ pub fn new_and_leaving_peers_are_charged()
         60000 ≤ available_in limits store kinds.RemovePeer now →
         first_refused (steps.RemovePeer peer store ∷ more) limits now
         ≡ first_refused more (taken limits store kinds.RemovePeer now) now }
+{}
+
+/// What is added is a new operator of its region and of no other: it is Created at this moment, is to
+/// take the steps that were asked for, none of which is passed, and keeps epoch, kind and priority.
+pub fn an_added_operator_is_new()
+    ensures region { (table : Table) (op : NewOp) (now : ℕ) →
+        active_at (added table op now) op.region ≡ Some (created op now) }
+    ensures others { (table : Table) (op : NewOp) (now region : ℕ) → region ≢ op.region →
+        active_at (added table op now) region ≡ active_at table region }
+    ensures state { (op : NewOp) (now : ℕ) → (created op now).state ≡ Created }
+    ensures moment { (op : NewOp) (now : ℕ) → (created op now).created ≡ now }
+    ensures steps { (op : NewOp) (now : ℕ) → (created op now).steps ≡ op.steps }
+    ensures passed { (op : NewOp) (now : ℕ) → (created op now).passed ≡ 0 }
+    ensures epoch { (op : NewOp) (now : ℕ) → (created op now).epoch ≡ op.epoch }
+    ensures priority { (op : NewOp) (now : ℕ) → (created op now).priority ≡ op.priority }
+    ensures kind { (op : NewOp) (now : ℕ) → (created op now).kind ≡ op.kind }
+{}
+
+/// Passed steps stay passed: a heartbeat passes some more, each of which it shows as finished, and the
+/// operator stands at the first step that it doesn't.
+pub fn passed_steps_stay_passed()
+    ensures more { (op : Operator) (beat : RegionBeat) (stores : List StoreEntry) (now : ℕ) →
+        (count : ℕ) × ((turned op beat stores now).passed ≡ op.passed + count)
+        × All (λ (step : Step). IsTrue (is_finished step beat)) (take count (drop op.passed op.steps)) }
+    ensures next { (op : Operator) (beat : RegionBeat) (stores : List StoreEntry) (now : ℕ)
+        (step : Step) (more : List Step) →
+        drop (turned op beat stores now).passed op.steps ≡ step ∷ more →
+        is_finished step beat ≡ false }
 {}

@@ -348,24 +348,29 @@ fn a_moved_epoch_is_named(rt: HostRuntime) -> Result<(), Fail> {
     Ok(())
 }
 
-// A heartbeat of the region 7 with these peers, led by this one.
-fn seen(
-    alloc: Global,
-    conf_ver: u64,
-    leader: u64,
-    list: &[(u64, u64, Role)],
-) -> Result<RegionBeat, NoMemory> {
+// The peer of a word `id:store:role`.
+fn peer(word: &str) -> Result<Peer, Fail> {
+    let mut parts = word.split(':');
+    let id = parts.next().unwrap_or("").parse::<u64>()?;
+    let store = parts.next().unwrap_or("").parse::<u64>()?;
+    let role = match parts.next() {
+        Some("l") => Role::Learner,
+        _ => Role::Voter,
+    };
+    Ok(Peer { id, store, role })
+}
+
+// A heartbeat of the region 7: its conf_ver, its leader and its peers.
+fn seen(alloc: Global, row: &str) -> Result<RegionBeat, Fail> {
+    let mut words = row.split(' ');
+    let conf_ver = words.next().unwrap_or("").parse::<u64>()?;
     let mut seen = beat(alloc, conf_ver, false)?;
+    seen.leader = words.next().unwrap_or("").parse::<u64>()?;
     let mut peers = Seq::new(alloc);
-    for (id, store, role) in list {
-        peers.push(Peer {
-            id: *id,
-            store: *store,
-            role: *role,
-        })?;
+    for word in words.next().unwrap_or("").split(',') {
+        peers.push(peer(word)?)?;
     }
     seen.region.peers = peers;
-    seen.leader = leader;
     Ok(seen)
 }
 
@@ -403,50 +408,47 @@ fn given_four(alloc: Global) -> Result<Operators, Fail> {
     Ok(operators)
 }
 
-const V: Role = Role::Voter;
-
 // What a heartbeat at the moment 100001 makes of the four steps: the step that is sent.
-fn sent(operators: &mut Operators, alloc: Global, seen: &RegionBeat) -> Result<Option<Step>, Fail> {
+fn sent(operators: &mut Operators, alloc: Global, row: &str) -> Result<String, Fail> {
+    let seen = seen(alloc, row)?;
     let stores = stores(alloc, 100_000)?;
-    Ok(match operators.dispatch(seen, &stores, 100_001) {
-        Dispatch::Send(step) => Some(step),
-        _ => None,
+    Ok(match operators.dispatch(&seen, &stores, 100_001) {
+        Dispatch::Send(step) => format!(in alloc; "{step}")?,
+        _ => String::from_str(alloc, "nothing")?,
     })
 }
 
-// Two of the four steps are finished by one heartbeat; the last one is sent, and once it is done the
-// operator has succeeded.
-#[test]
-fn four_steps_are_passed_to_the_end(rt: HostRuntime) -> Result<(), Fail> {
-    let alloc = rt.alloc();
+// Two of the four steps are finished by the second heartbeat; once the last one is done the operator
+// has succeeded.
+const TO_THE_END: &str = "\
+1 11 11:1:v,12:2:v,13:3:v > add-learner peer 20 store 4
+3 11 11:1:v,12:2:v,13:3:v,20:4:v > transfer-leader peer 12 store 2
+3 12 11:1:v,12:2:v,13:3:v,20:4:v > remove-peer peer 11 store 1
+4 12 12:2:v,13:3:v,20:4:v > nothing
+";
+
+// One step is passed, which changes conf_ver by one, and conf_ver grew by two.
+const PAST_CONF_VER: &str = "\
+2 11 11:1:v,12:2:v,13:3:v,20:4:l > promote-learner peer 20 store 4
+3 11 11:1:v,12:2:v,13:3:v,20:4:l > nothing
+";
+
+// Lets the heartbeats of the rows arrive once the four steps are given, and compares what is sent and
+// the operator's state behind them.
+fn pass(rt: &impl Abort, alloc: Global, rows: &str, end: OpState) -> Result<(), Fail> {
     let mut operators = given_four(alloc)?;
-    let first = seen(alloc, 1, 11, &[(11, 1, V), (12, 2, V), (13, 3, V)])?;
-    assert_eq!(rt; sent(&mut operators, alloc, &first)?, Some(ADD));
-    let all = [(11, 1, V), (12, 2, V), (13, 3, V), (20, 4, V)];
-    let grown = seen(alloc, 3, 11, &all)?;
-    let lead = Step::TransferLeader { peer: 12, store: 2 };
-    assert_eq!(rt; sent(&mut operators, alloc, &grown)?, Some(lead));
-    let moved = seen(alloc, 3, 12, &all)?;
-    let last = Step::RemovePeer { peer: 11, store: 1 };
-    assert_eq!(rt; sent(&mut operators, alloc, &moved)?, Some(last));
-    let done = seen(alloc, 4, 12, &[(12, 2, V), (13, 3, V), (20, 4, V)])?;
-    assert_eq!(rt; sent(&mut operators, alloc, &done)?, None);
-    assert_eq!(rt; operators.state(7), Some(OpState::Success));
+    for row in rows.lines() {
+        let (seen, wanted) = row.split_once(" > ").unwrap_or((row, ""));
+        let text = sent(&mut operators, alloc, seen)?;
+        assert_eq!(rt; text.as_str(), wanted, "{row}");
+    }
+    assert_eq!(rt; operators.state(7), Some(end));
     Ok(())
 }
 
-// One step is passed, which changes conf_ver by one, and conf_ver grew by two.
 #[test]
-fn conf_ver_past_the_passed_steps_cancels(rt: HostRuntime) -> Result<(), Fail> {
+fn four_steps_are_passed_in_order(rt: HostRuntime) -> Result<(), Fail> {
     let alloc = rt.alloc();
-    let mut operators = given_four(alloc)?;
-    let learner = (20, 4, Role::Learner);
-    let peers = [(11, 1, V), (12, 2, V), (13, 3, V), learner];
-    let kept = seen(alloc, 2, 11, &peers)?;
-    let promote = Step::PromoteLearner { peer: 20, store: 4 };
-    assert_eq!(rt; sent(&mut operators, alloc, &kept)?, Some(promote));
-    let grown = seen(alloc, 3, 11, &peers)?;
-    assert_eq!(rt; sent(&mut operators, alloc, &grown)?, None);
-    assert_eq!(rt; operators.state(7), Some(OpState::Canceled));
-    Ok(())
+    pass(&rt, alloc, TO_THE_END, OpState::Success)?;
+    pass(&rt, alloc, PAST_CONF_VER, OpState::Canceled)
 }
