@@ -22,12 +22,46 @@ pub struct Bench {
     ghost in_turn: { next ≤ length schedulers.items - 1 },
 }
 
-/// What contracts see of a bench: each scheduler by its own meanings, in the order of the list, the
-/// place of the next in turn, and all that was said.
+/// Schedulers that are asked in turn. Contracts see each by its own meanings, in the order of the list,
+/// the place of the next in turn, and all that was said. Who asks a bench is generic in it: a function
+/// of another crate that takes boxed schedulers counts as one that may make some.
 pub trait Seated {
-    ghost use Rattle.sched_api.specs.Benches.{Seats};
+    ghost use Rattle.std.specs.Prelude.{◌≡◌, ◌↔◌, ◌≢◌, [], All, IfNone, IfOk, IfSome, IsErr, IsNone, List, OnErr, OnOk, ℕ};
+    ghost use Rattle.sched_api.specs.Benches.{Drops, SaysNothing, Seats, TakesTurn, names_of};
 
     ghost seats: { Self → Seats };
+
+    /// Asks the scheduler whose turn it is, and says its answer under its name. None comes exactly
+    /// from a bench without schedulers. Want of memory leaves the names, the turn and what was said;
+    /// the scheduler may have been asked.
+    fn run_next(
+        &mut self,
+        stores: &Stores,
+        standing: &Standing,
+        rules: &RuleSet,
+        busy: &Ids,
+        now: u64,
+    ) -> Result<Option<Said>, NoMemory>
+        ensures turn { IfOk result (λ said. IfSome said (TakesTurn (seats self.old) (seats self.new))) }
+        ensures none { IfOk result (λ said. IsNone said ↔ ((seats self.old).list ≡ [])) }
+        ensures empty { IfOk result (λ said. IfNone said (seats self.new ≡ seats self.old)) }
+        ensures err { OnErr result (SaysNothing (seats self.old) (seats self.new)) };
+
+    /// Tells the scheduler that was asked last what became of its proposal. Nobody is told where it
+    /// was removed, or where none was asked.
+    fn tell_last(&mut self, fate: Fate)
+        ensures same { seats self.new ≡ seats self.old };
+
+    /// Drops the first scheduler of this name. The one whose turn is next stays the next; where it is
+    /// the one dropped, the one after it is.
+    fn remove(&mut self, name: &[u8]) -> Result<(), Absent>
+        ensures ok { OnOk result (Drops name.now (seats self.old) (seats self.new)) }
+        ensures absent { IsErr result ↔ All (λ (one : List ℕ). one ≢ name.now) (names_of (seats self.old)) }
+        ensures err { OnErr result (seats self.new ≡ seats self.old) };
+
+    /// The names, in the order of the list.
+    fn names(&self) -> Result<Texts, NoMemory>
+        ensures value { IfOk result (λ names. names ≡ names_of (seats self.now)) };
 }
 
 impl Seated for Bench {
@@ -39,6 +73,29 @@ impl Seated for Bench {
       next = bench.next;
       said = bench.said.items;
     } };
+
+    fn run_next(
+        &mut self,
+        stores: &Stores,
+        standing: &Standing,
+        rules: &RuleSet,
+        busy: &Ids,
+        now: u64,
+    ) -> Result<Option<Said>, NoMemory> {
+        Bench::run_next(self, stores, standing, rules, busy, now)
+    }
+
+    fn tell_last(&mut self, fate: Fate) {
+        Bench::tell_last(self, fate);
+    }
+
+    fn remove(&mut self, name: &[u8]) -> Result<(), Absent> {
+        Bench::remove(self, name)
+    }
+
+    fn names(&self) -> Result<Texts, NoMemory> {
+        Bench::names(self)
+    }
 }
 
 // Asks a scheduler, and says its answer under its name.
