@@ -16,19 +16,22 @@ use Rattle.tso_model.specs.Ledger.{Climb, place}
 use Rattle.tso_model.specs.Sound.{IsSetup}
 use Rattle.tso_model.specs.Words.{Inside, passes}
 use Rattle.tso_model.specs.OneHistory.{IsAbove}
-use Rattle.tso_core.specs.Laws.{Adds, IsFair, IsUpTo, Tells, seen_at, seen_by, with_batch}
-use Rattle.tso_core.specs.Says.{says}
+use Rattle.tso_core.specs.Laws.{Adds, IsFair, IsUpTo, Tells, seen_at, seen_by, windows_with, with_batch}
+use Rattle.tso_core.specs.Says.{OfWindows, Stay, says}
+use Rattle.tso_core.specs.Rows.{resigned_of}
 use Rattle.tso_core.specs.Sound.{IsSound, HasDriver, HasClient}
 use Rattle.tso_core.specs.Asked.{IsCount}
-use Rattle.tso_core.specs.Steps.{Stepped}
-use Rattle.tso_core.specs.Whole.{Whole}
+use Rattle.tso_core.specs.Steps.{Stepped, decided, ends}
+use Rattle.tso_core.specs.Whole.{Whole, made, view_at}
 use Rattle.tso_core.specs.declared.reply.Reply.{Reply}
-use Rattle.tso_core.specs.declared.reply.Reply.TheVariants.{Got, Nothing, CellRead}
-use Rattle.tso_core.specs.declared.reply.Kind.TheVariants.{Read as ToRead, Campaign as ToCampaign, Save as ToSave, Raise as ToRaise, Publish as ToPublish, Probe as ToProbe, Look as ToLook, Arm as ToArm, Draw as ToDraw}
+use Rattle.tso_core.specs.declared.reply.Reply.TheVariants.{Got, Nothing, CellRead, NotLeading, Resigned}
+use Rattle.tso_core.specs.declared.reply.Kind.TheVariants.{Read as ToRead, Campaign as ToCampaign, Save as ToSave, Raise as ToRaise, Publish as ToPublish, Probe as ToProbe, Look as ToLook, Arm as ToArm, Draw as ToDraw, Resign as Resigning}
 use Rattle.pd_types.specs.declared.oracle.Actor.{Actor}
 use Rattle.pd_types.specs.declared.oracle.Actor.TheVariants.{Driver, Client, Store}
 use Rattle.tso_core.proofs.Granted.{ledger, bounded}
+use Rattle.tso_core.proofs.Stepping.{call_by}
 use Rattle.tso_core.proofs.Telling.{each_call_tells, is_new}
+use Rattle.tso_model.specs.declared.step.WordStep.TheVariants.{ClearLimit}
 use Rattle.pd_script.specs.Lawful.{AreLawful, IsInRange, IsLawful, IsLawfulScript, actor_in}
 use Rattle.pd_script.specs.declared.place.Place.TheVariants.{Driver as AtDriver, Client as AtClient, Count as AtCount}
 use Rattle.pd_types.specs.declared.request.Request.{Request}
@@ -44,7 +47,8 @@ use Rattle.pd_cluster.specs.Answers.{Answer, answer_text, answers_text, client_i
 use Rattle.tso_model.specs.OneHistory.{AreApart, LiesInOne}
 use Rattle.pd_cluster.specs.History.{HasPassed, IsFairAfter, batches_of, caller, opening_window, reply, windows_from, windows_of}
 use Rattle.pd_cluster.specs.Outcome.{IsSafeRun, StaysBounded}
-use Rattle.pd_cluster.specs.Replay.{State, act_step, answers_from, answers_of, line_step, past_at, setup_of, start, state_after}
+use Rattle.pd_cluster.specs.Replay.{State, TakeTurns, act_step, answers_from, answers_of, gives_up, line_step, part_at, past_at, setup_of, start, state_after}
+use Rattle.pd_cluster.specs.Talks.{Talk}
 use Rattle.pd_cluster.specs.Sent.{HaveSafeSteps, IsSafeSaid}
 use Rattle.pd_cluster.proofs.Sending.{printed, start_sound}
 
@@ -88,6 +92,41 @@ opens w s saved term = record {
   shown = λ has. All-nil (λ (seen : Seen). IsUpTo seen (seen_at w 0));
   others = λ e has apart. refl;
 }
+
+-- a resignation says nothing of windows and of batches
+record SaysLittle (r : Stepped) : Type 0 where
+  windows : (says r.reply).windows ≡ Stay
+  batch : (says r.reply).batch ≡ None
+
+resign_says : (w : Whole) (d : ℕ) → SaysLittle (resigned_of w d)
+resign_says w d = call_by SaysLittle w (Driver d) Resigning [] refl (record { windows = refl; batch = refl }) (λ rest. by (view_at w d).holds)
+  where
+    by : (b : Bool) → SaysLittle (cond b (decided (made w d ClearLimit) d (ends Resigned)) (record { reply = NotLeading; after = w }))
+    by true = record { windows = refl; batch = refl }
+    by false = record { windows = refl; batch = refl }
+
+-- a driver that resigns behind an answer that says nothing of the oracle
+resigned_tells : (w : Whole) → IsSound w → (driver d c : ℕ) → HasDriver w.setup driver → (let r : Stepped = record { reply = Nothing; after = (resigned_of w driver).after } in Tells w d c r)
+resigned_tells w s driver d c has =
+    let t = (each_call_tells w s).resign driver has in
+    let little = resign_says w driver in
+    let same : (e : ℕ) → HasClient w.setup e → seen_at (resigned_of w driver).after e ≡ seen_at w e = λ e own. t.others e own (λ none. absurd (omega (arith, own.pos, none))) in
+    record {
+      sound = t.sound;
+      setup = t.setup;
+      windows = t.windows ∙ ap (λ (o : OfWindows). windows_with driver o w.windows) little.windows;
+      batches = t.batches ∙ ap (λ (o : Option Batch). with_batch o w.batches) little.batch;
+      fair = λ seen is. record { above = tt; passed = tt };
+      own = λ own. same c own;
+      risen = λ own. subst (λ (x : Seen). IsUpTo (seen_at w c) x) (sym (same c own)) (up_to_itself (seen_at w c));
+      shown = λ own. All-nil (λ (seen : Seen). IsUpTo seen (seen_at (resigned_of w driver).after c));
+      others = λ e own apart. same e own;
+    }
+
+-- what is asked of a cluster, where its driver may resign
+asked_tells : (w : Whole) → IsSound w → (driver d c : ℕ) → HasDriver w.setup driver → (b : Bool) → (let r : Stepped = record { reply = Nothing; after = cond b (resigned_of w driver).after w } in Tells w d c r)
+asked_tells w s driver d c has true = resigned_tells w s driver d c has
+asked_tells w s driver d c has false = silent w s d c
 
 -- what a line's answer tells
 act_tells : (w : Whole) → IsSound w → (act : Act) → IsLawful w.setup.drivers w.setup.clients act → Tells w (driver_in (actor_in act)) (client_in (actor_in act)) (act_step w act)
@@ -233,10 +272,12 @@ prints_one u s r old final printed adds p = prints_batch u s (says r).batch old 
 abbrev oracle_turn : State → Line → Stepped
 oracle_turn state line = record { reply = oracle_reply (line_step state line).said; after = (line_step state line).after.oracle }
 
-same_turn : (state : State) (number : ℕ) (actor : Option Actor) (act : Act) → oracle_turn state (record { number = number; actor = actor; act = act }) ≡ act_step state.oracle act
-same_turn state number actor (Ask driver request) = refl
-same_turn state number actor (Pop store driver) = refl
-same_turn state number actor _ = refl
+turn_told : (state : State) (number : ℕ) (actor : Option Actor) (act : Act) → IsSound state.oracle → IsLawful state.oracle.setup.drivers state.oracle.setup.clients act
+    → Tells state.oracle (driver_in (actor_in act)) (client_in (actor_in act)) (oracle_turn state (record { number = number; actor = actor; act = act }))
+turn_told state number actor (Ask driver request) s asked =
+    asked_tells state.oracle s driver (driver_in (Some (asker driver request))) (client_in (Some (asker driver request))) (has_driver state.oracle.setup driver asked.0) (gives_up (part_at state.kept driver) request)
+turn_told state number actor (Pop store driver) s asked = silent state.oracle s (driver_in (Some (Store store))) (client_in (Some (Store store)))
+turn_told state number actor act s asked = act_tells state.oracle s act asked
 
 has_or_not : (k : Setup) (c : ℕ) → HasClient k c ⊎ (HasClient k c → ⊥)
 has_or_not k c = by (order 0 c) (order k.clients c)
@@ -321,7 +362,7 @@ none_exceed i j d before within = absurd (omega (arith, within))
 line_told : (state : State) (line : Line) → IsSound state.oracle → IsAsked state.oracle.setup line → Tells state.oracle (driver_in line.actor) (client_in line.actor) (oracle_turn state line)
 line_told state line s asked =
     subst (λ (a : Option Actor). Tells state.oracle (driver_in a) (client_in a) (oracle_turn state line)) (sym asked.actor)
-    (subst (λ (t : Stepped). Tells state.oracle (driver_in (actor_in line.act)) (client_in (actor_in line.act)) t) (sym (same_turn state line.number line.actor line.act)) (act_tells state.oracle s line.act asked.lawful))
+    (turn_told state line.number line.actor line.act s asked.lawful)
 
 has_passed : (state : State) (line : Line) (d c : ℕ) → Tells state.oracle d c (oracle_turn state line) → HasPassed (record { line = line; said = (line_step state line).said })
 has_passed state line d c tells at hi n is = by (has_or_not state.oracle.setup c)
@@ -382,7 +423,7 @@ is_setup mode script lawful = record {
   cell = lines_cell mode script.drivers script.clients true script.lines lawful.lines;
 }
 
-each_lawful : (mode : Mode) (drivers clients : ℕ) (first : Bool) (lines : List Line) → AreLawful mode drivers clients first lines → AllByRecursion (λ line. IsLawful drivers clients line.act) lines
+pub each_lawful : (mode : Mode) (drivers clients : ℕ) (first : Bool) (lines : List Line) → AreLawful mode drivers clients first lines → AllByRecursion (λ line. IsLawful drivers clients line.act) lines
 each_lawful mode drivers clients first [] asked = tt
 each_lawful mode drivers clients first (line ∷ lines) asked = (asked.1, each_lawful mode drivers clients false lines asked.2)
 
@@ -399,29 +440,29 @@ same_lines [] state = refl
 same_lines (line ∷ lines) state = ap (λ (ls : List Line). line ∷ ls) (same_lines lines (line_step state line).after)
 
 -- the steps that are printed
-pub safe_steps : (script : Script) → IsLawfulScript ByLine script → HaveSafeSteps (answers_of script)
-safe_steps script lawful =
+pub safe_steps : (talks : List Talk) (script : Script) → IsLawfulScript ByLine script → TakeTurns (start talks script) script.lines → HaveSafeSteps (answers_of talks script)
+safe_steps talks script lawful turns =
     let each = each_lawful ByLine script.drivers script.clients true script.lines lawful.lines in
-    let all = printed script.drivers script.clients script.lines (start script) each (start_sound script.drivers script.lines (start script) (length-replicate (script.drivers + 1) []) refl refl) in
-    let js = (state_after (start script) script.lines).kept.journals in
-    record { journals = past_at js; legal = all.legal; safe = All-from_recursion (λ (answer : Answer). IsSafeSaid (past_at js) answer.line answer.said) (answers_of script) all.safe }
+    let all = printed script.drivers script.clients script.lines (start talks script) each turns (start_sound script.drivers script.lines (start talks script) (length-replicate (script.drivers + 1) []) refl refl) in
+    let js = (state_after (start talks script) script.lines).kept.journals in
+    record { journals = past_at js; legal = all.legal; safe = All-from_recursion (λ (answer : Answer). IsSafeSaid (past_at js) answer.line answer.said) (answers_of talks script) all.safe }
 
-pub history : (mode : Mode) (script : Script) → IsLawfulScript mode script → IsSafeRun script
-history mode script lawful =
+pub history : (talks : List Talk) (mode : Mode) (script : Script) → IsLawfulScript mode script → IsSafeRun talks script
+history talks mode script lawful =
     let new = is_new (setup_of script) (is_setup mode script lawful) in
     let asked = with_actors (setup_of script) script.lines (each_lawful mode script.drivers script.clients true script.lines lawful.lines) (recursion_from_All _ _ lawful.actors) in
-    let run = runs script.lines (start script) new.sound asked in
-    let last : Whole = (state_after (start script) script.lines).oracle in
+    let run = runs script.lines (start talks script) new.sound asked in
+    let last : Whole = (state_after (start talks script) script.lines).oracle in
     let l = ledger last run.sound in
-    let told : windows_of (answers_of script) ≡ last.windows =
-    ap (λ (ls : List Line). windows_from (opening_window (opening_cell ls) ∷ []) (answers_of script)) (same_lines script.lines (start script))
-    ∙ ap (λ (ws : List Window). windows_from ws (answers_of script)) (sym new.windows) ∙ run.windows in
+    let told : windows_of (answers_of talks script) ≡ last.windows =
+    ap (λ (ls : List Line). windows_from (opening_window (opening_cell ls) ∷ []) (answers_of talks script)) (same_lines script.lines (start talks script))
+    ∙ ap (λ (ws : List Window). windows_from ws (answers_of talks script)) (sym new.windows) ∙ run.windows in
     record {
       answers = record {
         history = record {
           rises = run.prints.apart;
           follow = record { opening = last.setup.cell; claims = l.claims; are = told ∙ l.windows; rise = l.rise };
-          inside = subst (λ (ws : List Window). All (LiesInOne ws) (batches_of (answers_of script))) (sym told) (All-from_recursion _ _ (all_weaker (λ b. In b last.batches) (LiesInOne last.windows) (λ b is. lies_in_one last run.sound b is) (batches_of (answers_of script)) run.prints.among));
+          inside = subst (λ (ws : List Window). All (LiesInOne ws) (batches_of (answers_of talks script))) (sym told) (All-from_recursion _ _ (all_weaker (λ b. In b last.batches) (LiesInOne last.windows) (λ b is. lies_in_one last run.sound b is) (batches_of (answers_of talks script)) run.prints.among));
         };
         fair = record { exceed = run.exceed; passed = All-from_recursion _ _ run.passed };
       };

@@ -12,7 +12,7 @@ use Rattle.pd_cluster.specs.declared.command.Command.{Command}
 use Rattle.pd_cluster.specs.declared.command.Command.TheVariants.{Replay, Run, Tso}
 
 safe_result : (text : List ℕ) (r : Result Script ScriptRefusal) → script_of ByLine text ≡ r → SafeScript r
-safe_result text (Ok script) is = history ByLine script (lawful ByLine text script is)
+safe_result text (Ok script) is = λ talks. history talks ByLine script (lawful ByLine text script is)
 safe_result text (Err refusal) is = tt
 
 pub safe_outcome : (command : Command) (text : List ℕ) → SafeOutcome command text

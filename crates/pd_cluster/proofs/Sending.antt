@@ -1,6 +1,6 @@
 -- Each step that a replay prints was sent by an entry of its journals, which are legal, and is safe there.
-use Rattle.std.proofs.Common.{refl, ◌≡◌, ℕ, zero, suc, ◌+◌, ◌<◌, ◌≤◌, ◌⊎◌, inl, inr, Bool, true, false, cond, eqb, List, [], ◌∷◌, ◌++◌, length, length-append, length-set, map, max, get_or, replicate, set, append_assoc, ap, sym, ◌∙◌, subst, Option, Some, None, arith}
-use Rattle.std.specs.Prelude.{All, Contains, option_map}
+use Rattle.std.proofs.Common.{refl, ◌≡◌, ℕ, zero, suc, ◌+◌, ◌<◌, ◌≤◌, ◌⊎◌, inl, inr, Bool, true, false, cond, eqb, List, [], ◌∷◌, ◌++◌, length, length-append, length-set, map, max, nat_eq, take, get_or, replicate, set, append_assoc, ap, sym, ◌∙◌, subst, Option, Some, None, arith}
+use Rattle.std.specs.Prelude.{All, Contains, Result, Ok, Err, option_map}
 use Rattle.std.specs.List.{AllByRecursion}
 use Rattle.std.specs.FinMap as map
 use Rattle.std.specs.Ordering.{nat_cmp}
@@ -20,25 +20,41 @@ use Rattle.pd_script.specs.Lawful.{IsLawful}
 use Rattle.pd_script.specs.declared.act.Act.{Act}
 use Rattle.pd_script.specs.declared.act.Act.TheVariants.{Ask, Pop}
 use Rattle.pd_script.specs.declared.act.Line.{Line}
+use Rattle.pd_ctl.specs.declared.command.Command.{Command}
+use Rattle.pd_ctl.specs.declared.command.Command.TheVariants as commands
+use Rattle.pd_ctl.specs.declared.fault.CtlFault.{CtlFault}
+use Rattle.sched_api.specs.declared.scheduler.Said.{Said as Heeded}
+use Rattle.tso_core.specs.declared.reply.Reply.{Reply as Answered}
+use Rattle.tso_core.specs.declared.reply.Reply.TheVariants as answered
+use Rattle.pd_state.specs.Adding.{Around, Planning, around_at, planning_of}
+use Rattle.pd_state.specs.Asking.{Hearing, hearing}
+use Rattle.pd_state.specs.BenchHeard.{asks_names, names_heard, turns_of}
 use Rattle.pd_state.specs.Calls.{most_calls, next_call}
+use Rattle.pd_state.specs.Checking.{Deed, deed_of, idle}
+use Rattle.pd_state.specs.Ctl.{ctl_of, resigns, resigns_by, words_done}
 use Rattle.pd_state.specs.Gates.{IsSafeThere}
 use Rattle.pd_state.specs.Heard.{heard_of}
 use Rattle.pd_state.specs.Legal.{IsLegal, IsLegalAfter, sents_by, term_in}
 use Rattle.pd_state.specs.Sends.{message}
+use Rattle.pd_state.specs.Reports.{command_told}
 use Rattle.pd_state.specs.Since.{since, since_by}
 use Rattle.pd_state.specs.State.{moment_of, part_after, part_of}
 use Rattle.pd_state.specs.declared.entry.Entry.{Entry}
 use Rattle.pd_state.specs.declared.heard.Heard.{Heard}
 use Rattle.pd_state.specs.declared.part.Part.{Part}
 use Rattle.pd_state.specs.declared.reply.Reply.{Reply}
+use Rattle.pd_state.specs.declared.reply.Reply.TheVariants as replies
 use Rattle.pd_state.specs.declared.sent.Sent.{Sent}
+use Rattle.pd_state.proofs.Ends.{Ends, ends_or}
 use Rattle.pd_state.proofs.Few.{waits_few}
 use Rattle.pd_state.proofs.Gates.{gated}
 use Rattle.tso_outcome.proofs.Above.{to_map}
 use Rattle.pd_cluster.specs.Answers.{Answer, driver_in}
 use Rattle.pd_cluster.specs.Metadata.{answer_to, answers_from as calls_from, with_call}
-use Rattle.pd_cluster.specs.Replay.{Kept, State, Turned, act_step, answers_from, asked_besides, asked_line, lead_at, line_step, oracle_line, past_at, pop_line, served, state_after, waiting_at, with_besides, with_served}
-use Rattle.pd_state.specs.StepTold.{step_told}
+use Rattle.pd_cluster.specs.Replay.{Kept, SaysEnough, SaysEnoughFor, State, TakeTurns, Turned, act_step, answers_from, asked_besides, asked_line, lead_at, line_step, moment_of as line_moment, names_at, oracle_line, answers_at, part_at, past_at, pop_line, published_term, request_of, said_at, served, state_after, waiting_at, with_besides, with_served}
+use Rattle.pd_cluster.specs.Talks.{talk_at}
+use Rattle.pd_cluster.specs.declared.lead.BegunLead.{BegunLead}
+use Rattle.pd_state.specs.StepTold.{TellsStep}
 use Rattle.pd_cluster.specs.Sent.{IsSafeSaid, IsSafelySent, IsToldSafely, SendsSafely}
 use Rattle.pd_cluster.specs.Streams.{Waiting, first_of, has_room, messages_in, left_by, oldest_in, waiting_for, with_actor, with_actors, with_message, with_messages, without_first}
 use Rattle.pd_cluster.specs.declared.said.Said.{Said}
@@ -55,14 +71,76 @@ answers_asked (suc n) next past driver most low before (Some call) is room =
     let len = length-append before (answer_to past call ∷ []) in
     (sym is, answers_asked n next (with_call past driver call) driver most low (before ++ answer_to past call ∷ []) (next (before ++ answer_to past call ∷ [])) refl (omega (arith, len, room)))
 
-served_legal : (kept : Kept) (d n : ℕ) (request : Request) → IsLegalAfter d (past_at kept.journals d) (served kept d n request)
-served_legal kept d n request =
-    let part = part_after (past_at kept.journals d) in
-    record {
-      reply_is = refl;
-      asked = answers_asked (most_calls part request) (next_call part request) kept.metadata d (most_calls part request) (waits_few part request) [] (next_call part request []) refl (omega arith);
-      sends_are = refl;
-    }
+-- the names that a request hears are those that it asks for
+names_same : (request : Request) (names : List (List ℕ)) → names_heard request names ≡ names_heard request (names_heard request names)
+names_same request names = by (asks_names request)
+  where
+    by : (b : Bool) → cond b names [] ≡ cond b (cond b names []) []
+    by true = refl
+    by false = refl
+
+-- the answers that the metadata gives are to the calls that the request makes
+pub served_asked : (kept : Kept) (d : ℕ) (request : Request) → AreAsked (next_call (part_at kept d) request (said_at kept d request)) [] (answers_at kept d request)
+served_asked kept d request =
+    let part = part_at kept d in
+    let said = said_at kept d request in
+    answers_asked (most_calls part request) (next_call part request said) kept.metadata d (most_calls part request) (waits_few part request said) [] (next_call part request said []) refl (omega arith)
+
+pub served_legal : (kept : Kept) (d n : ℕ) (request : Request) → SaysEnough kept d request → IsLegalAfter d (past_at kept.journals d) (served kept d n request)
+served_legal kept d n request enough = record {
+  reply_is = refl;
+  asked = served_asked kept d request;
+  turns_are = enough;
+  names_are = names_same request (talk_at kept.talks d).names;
+  sends_are = refl;
+}
+
+-- the request lets no scheduler take a turn
+abbrev pub IsTurnless : Request → Type 0
+IsTurnless request = (part : Option Part) (names : List (List ℕ)) → turns_of part request names ≡ 0
+
+-- so it is with a request besides a line of the oracle's
+abbrev pub AreTurnless : Option Request → Type 0
+AreTurnless None = Unit {0}
+AreTurnless (Some request) = IsTurnless request
+
+term_turnless : (term moment : ℕ) → IsTurnless (ask.Term term moment)
+term_turnless term moment None names = refl
+term_turnless term moment (Some part) names = refl
+
+retire_turnless : IsTurnless ask.Retire
+retire_turnless None names = refl
+retire_turnless (Some part) names = refl
+
+published_turnless : (hi : ℕ) (lead : Option BegunLead) → AreTurnless (published_term hi lead)
+published_turnless hi None = tt
+published_turnless hi (Some lead) = by (nat_eq hi 0)
+  where
+    by : (t : Bool) → AreTurnless (cond t None (Some (ask.Term lead.term lead.moment)))
+    by true = tt
+    by false = term_turnless lead.term lead.moment
+
+pub besides_turnless : (act : Act) (reply : Answered) (lead : Option BegunLead) → AreTurnless (asked_besides act reply lead)
+besides_turnless act (answered.Won term lo hi) lead = term_turnless term (line_moment act)
+besides_turnless act (answered.Published hi) lead = published_turnless hi lead
+besides_turnless act (answered.Lost found) lead = retire_turnless
+besides_turnless act answered.Resigned lead = retire_turnless
+besides_turnless act _ lead = tt
+
+-- so nothing is said for it
+pub nothing_said : (kept : Kept) (d : ℕ) (request : Request) → IsTurnless request → said_at kept d request ≡ []
+nothing_said kept d request none = ap (λ (n : ℕ). take n (talk_at kept.talks d).said) (none (part_at kept d) (names_at kept d request))
+
+turnless_enough : (kept : Kept) (d : ℕ) (request : Request) → IsTurnless request → SaysEnough kept d request
+turnless_enough kept d request none = ap length (nothing_said kept d request none) ∙ sym (none (part_at kept d) (names_at kept d request))
+
+abbrev EnoughOr : Kept → ℕ → Option Request → Type 0
+EnoughOr kept d None = Unit {0}
+EnoughOr kept d (Some request) = SaysEnough kept d request
+
+besides_enough : (kept : Kept) (d : ℕ) (o : Option Request) → AreTurnless o → EnoughOr kept d o
+besides_enough kept d None none = tt
+besides_enough kept d (Some request) none = turnless_enough kept d request none
 
 -- WHAT AN ENTRY SENDS
 from_map : {A B : Type 0} (f : A → B) (xs : List A) (y : B) → Contains (map f xs) y → (x : A) × Contains xs x × (y ≡ f x)
@@ -82,11 +160,28 @@ record HasParts (o : Option (List Entry)) (request : Request) (entry : Entry) : 
   stood : option_map part_of o ≡ Some before
   stands : option_map part_of (since_by request entry o) ≡ Some after
 
+-- a command to resign sends nothing
+resign_sends : (around : Around) (planning : Planning) (told : Result Command CtlFault) (at : Hearing) → resigns_by told ≡ true → Ends Deed (λ (deed : Deed). deed.sents ≡ []) (words_done around planning told at)
+resign_sends around planning (Err fault) at is = refl
+resign_sends around planning (Ok commands.LeaderResign) at is = refl
+resign_sends around planning (Ok command) at is = absurd cc
+
+resigned_sends : (part : Part) (moment : ℕ) (words : List ℕ) (answers : List MetaAnswer) → resigns words ≡ true → (deed_of (ctl_of part moment words) part moment answers).sents ≡ []
+resigned_sends part moment words answers is =
+    ends_or Deed (λ (deed : Deed). deed.sents ≡ []) (idle (around_at part moment) (planning_of part) replies.NotLeading) (ctl_of part moment words (hearing part.known answers)) refl
+    (resign_sends (around_at part moment) (planning_of part) (command_told words) (hearing part.known answers) is)
+
 parts_of : (o : Option (List Entry)) (request : Request) (entry : Entry) (reply : Reply) (heard : Heard) (sent : Sent) → Contains (sents_by (option_map part_of o) request reply heard) sent → HasParts o request entry
 parts_of None request entry reply heard sent has = none_in sent has
 parts_of (Some es) (ask.Beat store moment beat) entry reply heard sent has = record { before = part_of es; after = part_of (entry ∷ es); stood = refl; stands = refl }
 parts_of (Some es) (ask.Check moment region) entry reply heard sent has = record { before = part_of es; after = part_of (entry ∷ es); stood = refl; stands = refl }
 parts_of (Some es) (ask.Patrol moment workers) entry reply heard sent has = record { before = part_of es; after = part_of (entry ∷ es); stood = refl; stands = refl }
+parts_of (Some es) (ask.Schedule moment) entry reply heard sent has = record { before = part_of es; after = part_of (entry ∷ es); stood = refl; stands = refl }
+parts_of (Some es) (ask.Ctl moment words) entry reply heard sent has = by (resigns words) refl
+  where
+    by : (t : Bool) → resigns words ≡ t → HasParts (Some es) (ask.Ctl moment words) entry
+    by true is = none_in sent (subst (λ (sents : List Sent). Contains sents sent) (resigned_sends (part_of es) moment words heard.answers is) has)
+    by false is = record { before = part_of es; after = part_of (entry ∷ es); stood = refl; stands = ap (λ (t : Bool). option_map part_of (cond t None (Some (entry ∷ es)))) is }
 parts_of (Some es) (ask.Term term moment) entry reply heard sent has = none_in sent has
 parts_of (Some es) ask.Retire entry reply heard sent has = none_in sent has
 parts_of (Some es) (ask.Hello store moment address labels) entry reply heard sent has = none_in sent has
@@ -97,7 +192,7 @@ parts_of (Some es) (ask.Unrule moment group id) entry reply heard sent has = non
 all_has : {A : Type 0} (P : A → Type 0) (xs : List A) (x : A) → All P xs → Contains xs x → P x
 all_has P xs x all has = subst P has.2 (all has.0 x has.1)
 
-module _ (kept : Kept) (d n : ℕ) (request : Request) (legal : IsLegal d (past_at kept.journals d)) where
+module _ (kept : Kept) (d n : ℕ) (request : Request) (enough : SaysEnough kept d request) (legal : IsLegal d (past_at kept.journals d)) where
   abbrev one : Entry
   one = served kept d n request
 
@@ -114,7 +209,7 @@ module _ (kept : Kept) (d n : ℕ) (request : Request) (legal : IsLegal d (past_
         after = parts.after;
         stood = parts.stood;
         stands = parts.stands;
-        safe = all_has (IsSafeThere parts.before parts.after (max parts.before.clock (moment_of request))) one.sends m (gated d past one legal (served_legal kept d n request) parts.before parts.after parts.stood parts.stands) has;
+        safe = all_has (IsSafeThere parts.before parts.after (max parts.before.clock (moment_of request))) one.sends m (gated d past one legal (served_legal kept d n request enough) parts.before parts.after parts.stood parts.stands) has;
       }
 
   record IsOwn (m : StepMsg) : Type 0 where
@@ -129,12 +224,12 @@ module _ (kept : Kept) (d n : ℕ) (request : Request) (legal : IsLegal d (past_
         sent = record { later = []; entry = one; past = past; stands = refl; place = ap (λ (x : StepMsg). x.entry) from.2; safely = sends_safely m has };
       }
 
-  own_told : (step : Step) → step_told one.reply ≡ Some step → IsToldSafely (one ∷ past) n one.reply step
+  own_told : (step : Step) → TellsStep one.reply step → IsToldSafely (one ∷ past) n one.reply
   own_told step is =
-      let among = told_sent (part_after past) request (heard_of one) step is in
+      let among = told_sent d (part_after past) request (heard_of one) step is in
       let m : StepMsg = message d (term_in (part_after past)) (length past + 1) among.sent in
       let has : Contains one.sends m = to_map (message d (term_in (part_after past)) (length past + 1)) (sents_by (part_after past) request one.reply (heard_of one)) among.sent among.here in
-      record { message = m; step_is = among.is; sent = record { later = []; entry = one; past = past; stands = refl; place = refl; safely = sends_safely m has }; line_is = refl; reply_is = refl }
+      record { message = m; told = among.told; sent = record { later = []; entry = one; past = past; stands = refl; place = refl; safely = sends_safely m has }; line_is = refl; reply_is = refl }
 
 -- WHAT WAS SENT STAYS SENT
 later_sent : (more journal : List Entry) (m : StepMsg) → IsSafelySent journal m → IsSafelySent (more ++ journal) m
@@ -147,9 +242,9 @@ later_sent more journal m s = record {
   safely = s.safely;
 }
 
-later_told : (more journal : List Entry) (line : ℕ) (reply : Reply) (step : Step) → IsToldSafely journal line reply step → IsToldSafely (more ++ journal) line reply step
+later_told : (more journal : List Entry) (line : ℕ) (reply : Reply) → IsToldSafely journal line reply → IsToldSafely (more ++ journal) line reply
 unfolding later_sent
-later_told more journal line reply step t = record { message = t.message; step_is = t.step_is; sent = later_sent more journal t.message t.sent; line_is = t.line_is; reply_is = t.reply_is }
+later_told more journal line reply t = record { message = t.message; told = t.told; sent = later_sent more journal t.message t.sent; line_is = t.line_is; reply_is = t.reply_is }
 
 -- each journal has more entries, or the same ones
 pub record Grows (old new : List (List Entry)) (d : ℕ) : Type 0 where
@@ -178,12 +273,12 @@ said_grows old new grows line answer = by answer.said
     by (ByOracle reply) h = tt
     by (ByCluster reply) h = λ driver request step act told.
         let g = grows driver in
-        subst (λ (j : List Entry). IsToldSafely j line.number reply step) (sym g.is) (later_told g.more (past_at old driver) line.number reply step (h driver request step act told))
+        subst (λ (j : List Entry). IsToldSafely j line.number reply) (sym g.is) (later_told g.more (past_at old driver) line.number reply (h driver request step act told))
     by (Popped None) h = tt
     by (Popped (Some m)) h = (h.0, sent_grows old new m.driver m (grows m.driver) h.1)
 
 -- A place of a list with one element in place of another: the new one, or what stood there
-put_at : {A : Type 0} (xs : List A) (d e : ℕ) (v any : A) → (get_or (set xs d v) e any ≡ get_or xs e any) ⊎ ((e ≡ d) × (get_or (set xs d v) e any ≡ v))
+pub put_at : {A : Type 0} (xs : List A) (d e : ℕ) (v any : A) → (get_or (set xs d v) e any ≡ get_or xs e any) ⊎ ((e ≡ d) × (get_or (set xs d v) e any ≡ v))
 put_at [] d e v any = inl refl
 put_at (x ∷ xs) zero zero v any = inr (refl, refl)
 put_at (x ∷ xs) zero (suc e) v any = inl refl
@@ -276,7 +371,7 @@ waiting_grows : (old new : List (List Entry)) (d store : ℕ) (m : StepMsg) → 
 waiting_grows old new d store m g w = record { driver = w.driver; to = w.to; sent = sent_grows old new d m g w.sent }
 
 -- a request that is served
-module _ (kept : Kept) (d n : ℕ) (request : Request) (legal : (e : ℕ) → IsLegal e (past_at kept.journals e)) where
+module _ (kept : Kept) (d n : ℕ) (request : Request) (enough : SaysEnough kept d request) (legal : (e : ℕ) → IsLegal e (past_at kept.journals e)) where
   abbrev after : Kept
   after = with_served kept d n request
 
@@ -292,12 +387,12 @@ module _ (kept : Kept) (d n : ℕ) (request : Request) (legal : (e : ℕ) → Is
   served_all : (e : ℕ) → IsLegal e (past_at after.journals e)
   served_all e = elim (put_at kept.journals d e behind_it []) [
     | inl same ↦ subst (IsLegal e) (sym same) (legal e)
-    | inr put ↦ subst (λ (k : ℕ). IsLegal k (past_at after.journals e)) (sym put.0) (subst (IsLegal d) (sym put.1) (served_legal kept d n request, legal d))
+    | inr put ↦ subst (λ (k : ℕ). IsLegal k (past_at after.journals e)) (sym put.0) (subst (IsLegal d) (sym put.1) (served_legal kept d n request enough, legal d))
   ]
 
   own_waits : (m : StepMsg) → d < length kept.journals → Contains (served kept d n request).sends m → IsWaiting after.journals d m.to m
   own_waits m low has =
-      let own = own_sent kept d n request (legal d) m has in
+      let own = own_sent kept d n request enough (legal d) m has in
       record { driver = own.driver; to = refl; sent = subst (λ (j : List Entry). IsSafelySent j m) (sym (put_here kept.journals d behind_it [] low)) own.sent }
 
 all_each : {A : Type 0} (P : A → Type 0) (xs : List A) → ((x : A) → Contains xs x → P x) → AllByRecursion P xs
@@ -310,7 +405,7 @@ record IsSoundTurn (drivers : ℕ) (state : State) (line : Line) (turned : Turne
   grows : AllGrow state.kept.journals turned.after.kept.journals
   safe : IsSafeSaid (past_at turned.after.kept.journals) line turned.said
 
-module _ (drivers : ℕ) (state : State) (n d : ℕ) (actor : Option Actor) (request : Request) (s : IsSound drivers state) (low : d ≤ drivers) where
+module _ (drivers : ℕ) (state : State) (n d : ℕ) (actor : Option Actor) (request : Request) (enough : SaysEnough state.kept d request) (s : IsSound drivers state) (low : d ≤ drivers) where
   abbrev old_js : List (List Entry)
   old_js = state.kept.journals
 
@@ -321,11 +416,11 @@ module _ (drivers : ℕ) (state : State) (n d : ℕ) (actor : Option Actor) (req
   sent_to = with_messages (waiting_at state d) (served state.kept d n request).sends
 
   kept_waits : (e : ℕ) → AllWait (IsWaiting new_js e) (waiting_at state e)
-  kept_waits e = weaker_wait (IsWaiting old_js e) (IsWaiting new_js e) (waiting_at state e) (λ store m w. waiting_grows old_js new_js e store m (served_grows state.kept d n request s.legal e) w) (s.waits e)
+  kept_waits e = weaker_wait (IsWaiting old_js e) (IsWaiting new_js e) (waiting_at state e) (λ store m w. waiting_grows old_js new_js e store m (served_grows state.kept d n request enough s.legal e) w) (s.waits e)
 
   new_waits : AllWait (IsWaiting new_js d) sent_to
   new_waits = messages_wait (IsWaiting new_js d) (waiting_at state d) (served state.kept d n request).sends (kept_waits d)
-      (all_each (λ (m : StepMsg). IsWaiting new_js d m.to m) (served state.kept d n request).sends (λ m has. own_waits state.kept d n request s.legal m (let places = s.places in omega (arith, low, places)) has))
+      (all_each (λ (m : StepMsg). IsWaiting new_js d m.to m) (served state.kept d n request).sends (λ m has. own_waits state.kept d n request enough s.legal m (let places = s.places in omega (arith, low, places)) has))
 
   sent_waits : (e : ℕ) → (get_or (set state.streams d sent_to) e map.empty ≡ waiting_at state e) ⊎ ((e ≡ d) × (get_or (set state.streams d sent_to) e map.empty ≡ sent_to)) → AllWait (IsWaiting new_js e) (get_or (set state.streams d sent_to) e map.empty)
   sent_waits e (inl same) = subst (AllWait (IsWaiting new_js e)) (sym same) (kept_waits e)
@@ -339,14 +434,14 @@ module _ (drivers : ℕ) (state : State) (n d : ℕ) (actor : Option Actor) (req
       record {
         sound = record {
           places = omega (arith, places, len);
-          legal = served_all state.kept d n request s.legal;
+          legal = served_all state.kept d n request enough s.legal;
           waits = λ e. sent_waits e (put_at state.streams d e sent_to map.empty);
         };
-        grows = served_grows state.kept d n request s.legal;
+        grows = served_grows state.kept d n request enough s.legal;
         safe = λ driver other step act told.
             let same : d ≡ driver = cc in
-            subst (λ (k : ℕ). IsToldSafely (past_at new_js k) n (served state.kept d n request).reply step) same
-            (subst (λ (j : List Entry). IsToldSafely j n (served state.kept d n request).reply step) (sym (put_here old_js d (served state.kept d n request ∷ past_at old_js d) [] within)) (own_told state.kept d n request (s.legal d) step told));
+            subst (λ (k : ℕ). IsToldSafely (past_at new_js k) n (served state.kept d n request).reply) same
+            (subst (λ (j : List Entry). IsToldSafely j n (served state.kept d n request).reply) (sym (put_here old_js d (served state.kept d n request ∷ past_at old_js d) [] within)) (own_told state.kept d n request enough (s.legal d) step told));
       }
 
 module _ (drivers : ℕ) (state : State) (n store d : ℕ) (actor : Option Actor) (s : IsSound drivers state) where
@@ -374,13 +469,13 @@ module _ (drivers : ℕ) (state : State) (n store d : ℕ) (actor : Option Actor
   }
 
 -- what is asked besides
-besides_grows : (kept : Kept) (d n : ℕ) (o : Option Request) → ((e : ℕ) → IsLegal e (past_at kept.journals e)) → AllGrow kept.journals (with_besides kept d n o).journals
-besides_grows kept d n None legal = grows_none kept.journals
-besides_grows kept d n (Some request) legal = served_grows kept d n request legal
+besides_grows : (kept : Kept) (d n : ℕ) (o : Option Request) → EnoughOr kept d o → ((e : ℕ) → IsLegal e (past_at kept.journals e)) → AllGrow kept.journals (with_besides kept d n o).journals
+besides_grows kept d n None enough legal = grows_none kept.journals
+besides_grows kept d n (Some request) enough legal = served_grows kept d n request enough legal
 
-besides_all : (kept : Kept) (d n : ℕ) (o : Option Request) → ((e : ℕ) → IsLegal e (past_at kept.journals e)) → (e : ℕ) → IsLegal e (past_at (with_besides kept d n o).journals e)
-besides_all kept d n None legal = legal
-besides_all kept d n (Some request) legal = served_all kept d n request legal
+besides_all : (kept : Kept) (d n : ℕ) (o : Option Request) → EnoughOr kept d o → ((e : ℕ) → IsLegal e (past_at kept.journals e)) → (e : ℕ) → IsLegal e (past_at (with_besides kept d n o).journals e)
+besides_all kept d n None enough legal = legal
+besides_all kept d n (Some request) enough legal = served_all kept d n request enough legal
 
 pub besides_len : (kept : Kept) (d n : ℕ) (o : Option Request) → length (with_besides kept d n o).journals ≡ length kept.journals
 besides_len kept d n None = refl
@@ -390,11 +485,12 @@ oracle_sound : (drivers : ℕ) (state : State) (line : Line) → IsSound drivers
 oracle_sound drivers state line s =
     let d = driver_in line.actor in
     let o = asked_besides line.act (act_step state.oracle line.act).reply (lead_at state d) in
-    let grows = besides_grows state.kept d line.number o s.legal in
+    let enough = besides_enough state.kept d o (besides_turnless line.act (act_step state.oracle line.act).reply (lead_at state d)) in
+    let grows = besides_grows state.kept d line.number o enough s.legal in
     record {
       sound = record {
         places = omega (arith, s.places, besides_len state.kept d line.number o);
-        legal = besides_all state.kept d line.number o s.legal;
+        legal = besides_all state.kept d line.number o enough s.legal;
         waits = λ e. weaker_wait (IsWaiting state.kept.journals e) (IsWaiting (with_besides state.kept d line.number o).journals e) (waiting_at state e)
             (λ store m w. waiting_grows state.kept.journals (with_besides state.kept d line.number o).journals e store m (grows e) w) (s.waits e);
       };
@@ -402,11 +498,11 @@ oracle_sound drivers state line s =
       safe = tt;
     }
 
-turn_sound : (drivers clients : ℕ) (state : State) (n : ℕ) (actor : Option Actor) (act : Act) → IsLawful drivers clients act → IsSound drivers state
+turn_sound : (drivers clients : ℕ) (state : State) (n : ℕ) (actor : Option Actor) (act : Act) → IsLawful drivers clients act → SaysEnoughFor state (request_of act) → IsSound drivers state
     → IsSoundTurn drivers state (record { number = n; actor = actor; act = act }) (line_step state (record { number = n; actor = actor; act = act }))
-turn_sound drivers clients state n actor (Ask d request) lawful s = asked_sound drivers state n d actor request s lawful.0.high
-turn_sound drivers clients state n actor (Pop store d) lawful s = pop_sound drivers state n store d actor s
-turn_sound drivers clients state n actor _ lawful s = oracle_sound drivers state _ s
+turn_sound drivers clients state n actor (Ask d request) lawful enough s = asked_sound drivers state n d actor request enough s lawful.0.high
+turn_sound drivers clients state n actor (Pop store d) lawful enough s = pop_sound drivers state n store d actor s
+turn_sound drivers clients state n actor _ lawful enough s = oracle_sound drivers state _ s
 
 -- ALL LINES
 pub record IsPrinted (state : State) (lines : List Line) : Type 0 where
@@ -414,12 +510,12 @@ pub record IsPrinted (state : State) (lines : List Line) : Type 0 where
   pub legal : (d : ℕ) → IsLegal d (past_at (state_after state lines).kept.journals d)
   pub safe : AllByRecursion (λ (answer : Answer). IsSafeSaid (past_at (state_after state lines).kept.journals) answer.line answer.said) (answers_from state lines)
 
-pub printed : (drivers clients : ℕ) (lines : List Line) (state : State) → AllByRecursion (λ (line : Line). IsLawful drivers clients line.act) lines → IsSound drivers state → IsPrinted state lines
-printed drivers clients [] state lawful s = record { grows = grows_none state.kept.journals; legal = s.legal; safe = tt }
-printed drivers clients (line ∷ lines) state lawful s =
-    let turn = turn_sound drivers clients state line.number line.actor line.act lawful.0 s in
+pub printed : (drivers clients : ℕ) (lines : List Line) (state : State) → AllByRecursion (λ (line : Line). IsLawful drivers clients line.act) lines → TakeTurns state lines → IsSound drivers state → IsPrinted state lines
+printed drivers clients [] state lawful turns s = record { grows = grows_none state.kept.journals; legal = s.legal; safe = tt }
+printed drivers clients (line ∷ lines) state lawful turns s =
+    let turn = turn_sound drivers clients state line.number line.actor line.act lawful.0 turns.0 s in
     let next : State = (line_step state line).after in
-    let rest = printed drivers clients lines next lawful.1 turn.sound in
+    let rest = printed drivers clients lines next lawful.1 turns.1 turn.sound in
     record {
       grows = grows_on state.kept.journals next.kept.journals (state_after next lines).kept.journals turn.grows rest.grows;
       legal = rest.legal;

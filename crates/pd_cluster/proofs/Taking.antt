@@ -17,6 +17,7 @@ use Rattle.pd_state.specs.declared.entry.Entry.{Entry}
 use Rattle.pd_cluster.specs.Answers.{driver_in}
 use Rattle.pd_cluster.specs.Replay.{State, act_step, asked_besides, asked_line, lead_at, line_step, oracle_line, past_at, pop_line, served, start, waiting_at}
 use Rattle.pd_cluster.specs.Streams.{Waiting, first_of, has_room, last_sends, messages_in, left_by, oldest_in, waiting_for, with_actor, with_actors, with_message, with_messages, without_first}
+use Rattle.pd_cluster.specs.Talks.{Talk}
 use Rattle.pd_cluster.specs.Taking.{AreByStreams, AreInOrder, Event, Sent, Answered, IsDue, acts_in, events_at, events_from, is_store, kept_for, streams_after, taken_by, with_line, with_sent}
 use Rattle.pd_cluster.specs.declared.streams.TheConstants.{MOST_MESSAGES}
 use Rattle.pd_cluster.proofs.Sending.{besides_len}
@@ -317,7 +318,7 @@ start_follows drivers lines d state low journals streams = record {
   answered = tt;
 }
 
-pub replayed : (script : Script) (driver : ℕ) → driver ≤ script.drivers → AreInOrder script.lines (events_at script driver)
-replayed script driver low =
-    (in_order script.lines (events_at script driver)).0
-    (all_follow script.lines driver script.lines (start script) [] (start_follows script.drivers script.lines driver (start script) low (length-replicate (script.drivers + 1) []) refl))
+pub replayed : (talks : List Talk) (script : Script) (driver : ℕ) → driver ≤ script.drivers → AreInOrder script.lines (events_at talks script driver)
+replayed talks script driver low =
+    (in_order script.lines (events_at talks script driver)).0
+    (all_follow script.lines driver script.lines (start talks script) [] (start_follows script.drivers script.lines driver (start talks script) low (length-replicate (script.drivers + 1) []) refl))

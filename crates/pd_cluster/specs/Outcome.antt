@@ -1,5 +1,5 @@
 -- What a command answers to a text, and what a run of the program leaves of it (own choice).
-use Rattle.std.specs.Prelude.{◌≡◌, ◌⊎◌, ℕ, ◌+◌, ◌<◌, List, [], ◌∷◌, ◌++◌, length, map, codes, Bool, true, false, Option, Result, Ok, Err, nat_lt, if◌then◌else◌}
+use Rattle.std.specs.Prelude.{◌≡◌, ◌≢◌, ◌⊎◌, ℕ, ◌+◌, ◌<◌, List, [], ◌∷◌, ◌++◌, length, map, codes, Bool, true, false, Option, Result, Ok, Err, nat_lt, if◌then◌else◌}
 use Rattle.std.specs.Fmt.{decimal}
 use Rattle.std.specs.Io.KnownBytes.{Appends, Consumes, IsAtEnd, Keeps}
 use Rattle.pd_lines.specs.Input.{TakesFew}
@@ -9,7 +9,7 @@ use Rattle.tso_core.specs.Laws.{AreBounded}
 use Rattle.pd_script.specs.Numbering.{reason_number}
 use Rattle.pd_script.specs.Scripts.{script_of}
 use Rattle.pd_script.specs.declared.refusal.Limited.{Limited}
-use Rattle.pd_script.specs.declared.refusal.Limited.TheVariants.{Events, Drivers, Clients, Stores, Leads}
+use Rattle.pd_script.specs.declared.refusal.Limited.TheVariants.{Events, Drivers, Clients, Stores, Reports, Leads}
 use Rattle.pd_script.specs.declared.refusal.ScriptRefusal.{ScriptRefusal}
 use Rattle.pd_script.specs.declared.refusal.ScriptRefusal.TheVariants.{Fault, Limit as PastLimit, NoMemory as NoRoom}
 use Rattle.pd_script.specs.declared.script.Mode.{Mode}
@@ -18,9 +18,11 @@ use Rattle.pd_script.specs.declared.script.Script.{Script}
 use Rattle.pd_script.specs.declared.act.Line.{Line}
 use Rattle.pd_cluster.specs.Answers.{Answer, answers_text}
 use Rattle.pd_cluster.specs.History.{IsSafe, windows_of}
-use Rattle.pd_cluster.specs.Replay.{State, answers_of, line_step, start, state_after}
+use Rattle.pd_cluster.specs.Replay.{State, TakeTurns, answers_of, line_step, start, state_after}
 use Rattle.pd_cluster.specs.RunOutcome.{RunsSafely, TellsRun}
 use Rattle.pd_cluster.specs.Sent.{HaveSafeSteps}
+use Rattle.pd_cluster.specs.Talks.{AreHeeded, Talk, talks_of}
+use Rattle.sched_api.specs.Benches.{Seats}
 use Rattle.pd_cluster.specs.declared.command.Command.{Command}
 use Rattle.pd_cluster.specs.declared.command.Command.TheVariants.{Replay, Run, Tso}
 use Rattle.pd_cluster.specs.declared.status.Status.{Status}
@@ -53,6 +55,7 @@ limited_text Events = codes "events"
 limited_text Drivers = codes "drivers"
 limited_text Clients = codes "clients"
 limited_text Stores = codes "stores"
+limited_text Reports = codes "reports"
 limited_text Leads = codes "leads"
 
 -- the answer to a text that is no script; want of memory is never the text's own
@@ -61,14 +64,23 @@ refusal_outcome (Fault line reason) = record { status = Refused; text = codes "l
 refusal_outcome (PastLimit what count) = record { status = Limit; text = codes "limit " ++ limited_text what ++ codes " " ++ decimal count ++ codes "\n" }
 refusal_outcome NoRoom = record { status = NoMemory; text = [] }
 
--- the answer to a script, or to a text that is none
-abbrev pub script_outcome : Result Script ScriptRefusal → Outcome
-script_outcome (Ok script) = record { status = Done; text = answers_text (answers_of script) }
-script_outcome (Err refusal) = refusal_outcome refusal
+-- the benches of schedulers before a run and after it: the first driver's, the second one's, and so on
+pub record Benches : Type 0 where
+  pub old : List Seats
+  pub new : List Seats
+
+-- what the benches of a script's drivers say in it
+abbrev pub talks_in : Benches → Script → List Talk
+talks_in benches script = talks_of (script.drivers + 1) benches.old benches.new
+
+-- the answer to a script, or to a text that is none, where the benches say this
+abbrev pub script_outcome : Benches → Result Script ScriptRefusal → Outcome
+script_outcome benches (Ok script) = record { status = Done; text = answers_text (answers_of (talks_in benches script) script) }
+script_outcome benches (Err refusal) = refusal_outcome refusal
 
 -- the answer of `replay` to the text that was read
-abbrev pub replay_outcome : List ℕ → Outcome
-replay_outcome text = if nat_lt 16777216 (length text) then limit_bytes else script_outcome (script_of ByLine text)
+abbrev pub replay_outcome : Benches → List ℕ → Outcome
+replay_outcome benches text = if nat_lt 16777216 (length text) then limit_bytes else script_outcome benches (script_of ByLine text)
 
 -- an outcome of `run` over a script is the text of any lawful run of it; over a text that is none it is the refusal
 abbrev pub IsScriptRun : Result Script ScriptRefusal → Outcome → Type 0
@@ -81,10 +93,10 @@ IsRunUnless true read outcome = outcome ≡ limit_bytes
 IsRunUnless false read outcome = IsScriptRun read outcome
 
 -- a lawful outcome of a command over the text that it read
-abbrev pub IsOutcome : Command → List ℕ → Outcome → Type 0
-IsOutcome Replay text outcome = outcome ≡ replay_outcome text
-IsOutcome Run text outcome = IsRunUnless (nat_lt 16777216 (length text)) (script_of OnThreads text) outcome
-IsOutcome (Tso timestamp) text outcome = outcome ≡ tso_outcome timestamp
+abbrev pub IsOutcome : Benches → Command → List ℕ → Outcome → Type 0
+IsOutcome benches Replay text outcome = outcome ≡ replay_outcome benches text
+IsOutcome benches Run text outcome = IsRunUnless (nat_lt 16777216 (length text)) (script_of OnThreads text) outcome
+IsOutcome benches (Tso timestamp) text outcome = outcome ≡ tso_outcome timestamp
 
 -- Before and after each line, each cursor stands at most 64 milliseconds past the saved end, however many draws were refused
 abbrev pub StaysBounded : State → List Line → Type 0
@@ -92,15 +104,40 @@ StaysBounded state [] = AreBounded state.oracle
 StaysBounded state (line ∷ lines) = AreBounded state.oracle × StaysBounded (line_step state line).after lines
 
 -- the answers to a script are a safe history, the windows that they tell are those of the oracle, and its cursors stay bounded
-pub record IsSafeRun (script : Script) : Type 0 where
-  pub answers : IsSafe (answers_of script)
-  pub told : windows_of (answers_of script) ≡ (state_after (start script) script.lines).oracle.windows
-  pub cursors : StaysBounded (start script) script.lines
+pub record IsSafeRun (talks : List Talk) (script : Script) : Type 0 where
+  pub answers : IsSafe (answers_of talks script)
+  pub told : windows_of (answers_of talks script) ≡ (state_after (start talks script) script.lines).oracle.windows
+  pub cursors : StaysBounded (start talks script) script.lines
 
--- the oracle's part of the outcome is safe, where there is a script
+-- the oracle's part of the outcome is safe, where there is a script, whatever the benches say
 abbrev pub SafeScript : Result Script ScriptRefusal → Type 0
-SafeScript (Ok script) = IsSafeRun script
+SafeScript (Ok script) = (talks : List Talk) → IsSafeRun talks script
 SafeScript (Err refusal) = Unit {0}
+
+-- the answers to a script tell, in order, what the benches said, and each turn that its lines let schedulers take was taken
+pub record IsHeeded (benches : Benches) (script : Script) : Type 0 where
+  pub told : AreHeeded (answers_of (talks_in benches script) script) 1 benches.old benches.new
+  pub turns : TakeTurns (start (talks_in benches script) script) script.lines
+
+-- so it is with the script; a text that is none asks no bench
+abbrev pub AreHeededIn : Benches → Result Script ScriptRefusal → Type 0
+AreHeededIn benches (Ok script) = IsHeeded benches script
+AreHeededIn benches (Err refusal) = benches.new ≡ benches.old
+
+-- the same, where the text that was read may be too long
+abbrev pub AreHeededUnless : Benches → Bool → Result Script ScriptRefusal → Type 0
+AreHeededUnless benches true read = benches.new ≡ benches.old
+AreHeededUnless benches false read = AreHeededIn benches read
+
+-- the same of the text that a command read; `replay` alone asks a bench
+abbrev pub AreHeededBy : Benches → Command → List ℕ → Type 0
+AreHeededBy benches Replay text = AreHeededUnless benches (nat_lt 16777216 (length text)) (script_of ByLine text)
+AreHeededBy benches Run text = benches.new ≡ benches.old
+AreHeededBy benches (Tso timestamp) text = benches.new ≡ benches.old
+
+-- a command other than `replay` asks no bench
+abbrev pub IsUnheard : Benches → Command → Type 0
+IsUnheard benches command = command ≢ Replay → benches.new ≡ benches.old
 
 -- a command's outcome over the text that it read is safe; of `run` that is said of the run which its outcome tells
 abbrev pub SafeOutcome : Command → List ℕ → Type 0
@@ -125,14 +162,15 @@ Leaves outcome WriteFault old new = WritesPrefix old new outcome.text
 Leaves outcome NoMemory old new = WritesPrefix old new outcome.text
 Leaves outcome status old new = (status ≡ outcome.status) × Appends old new outcome.text
 
--- the text that was taken, a lawful outcome, what was written of it, and that it is safe
-pub record Answers (command : Command) (status : Status) (left_old left_new held_old held_new : Option (List ℕ)) : Type 0 where
+-- the text that was taken, a lawful outcome, what was written of it, that it is safe, and what it asked of the benches
+pub record Answers (benches : Benches) (command : Command) (status : Status) (left_old left_new held_old held_new : Option (List ℕ)) : Type 0 where
   pub text : List ℕ
   pub outcome : Outcome
   pub taken : Reads command left_old left_new text
-  pub lawful : IsOutcome command text outcome
+  pub lawful : IsOutcome benches command text outcome
   pub written : Leaves outcome status held_old held_new
   pub safe : SafeOutcome command text
+  pub heeded : AreHeededBy benches command text
 
 -- each line of the script has an answer, in the order of the lines; their text is written in this way; and the answers are safe
 pub record PrintsSafely (script : Script) (Writes : List ℕ → Type 0) : Type 0 where
@@ -152,6 +190,14 @@ pub record PrintsSafeSteps (script : Script) (Writes : List ℕ → Type 0) : Ty
   pub lines : map (λ (answer : Answer). answer.line) answers ≡ script.lines
   pub printed : Writes (answers_text answers)
   pub safe : HaveSafeSteps answers
+
+-- each line of the script has an answer, in the order of the lines; their text is written in this way; and the proposals in the answers to a driver's lines
+-- are, in order, what its bench said in this run
+pub record PrintsHeeded (benches : Benches) (script : Script) (Writes : List ℕ → Type 0) : Type 0 where
+  pub answers : List Answer
+  pub lines : map (λ (answer : Answer). answer.line) answers ≡ script.lines
+  pub printed : Writes (answers_text answers)
+  pub heeded : AreHeeded answers 1 benches.old benches.new
 
 -- this is said of a script and of what is written of it; a text that is none has one line: the first at fault, or the limit
 abbrev pub Prints : (Script → (List ℕ → Type 0) → Type 0) → Result Script ScriptRefusal → (List ℕ → Type 0) → Type 0
@@ -191,6 +237,12 @@ IsStepHeadline Replay status left_old left_new held_old held_new = EndsSaying By
 IsStepHeadline Run status left_old left_new held_old held_new = Unit {0}
 IsStepHeadline (Tso timestamp) status left_old left_new held_old held_new = Unit {0}
 
+-- What `replay` prints of schedulers: the proposals in the answers to a driver's lines are, in order, what its bench said; the other commands ask no bench
+abbrev pub IsHeededBy : Benches → Command → Status → Option (List ℕ) → Option (List ℕ) → Option (List ℕ) → Option (List ℕ) → Type 0
+IsHeededBy benches Replay status left_old left_new held_old held_new = EndsSaying ByLine (PrintsHeeded benches) status left_old left_new held_old held_new
+IsHeededBy benches Run status left_old left_new held_old held_new = benches.new ≡ benches.old
+IsHeededBy benches (Tso timestamp) status left_old left_new held_old held_new = benches.new ≡ benches.old
+
 -- a read that failed took no more than the limit; `tso` reads nothing, so that none fails
 abbrev pub IsUnread : Command → Option (List ℕ) → Option (List ℕ) → Type 0
 IsUnread Replay old new = TakesFew old new 16777216
@@ -198,10 +250,10 @@ IsUnread Run old new = TakesFew old new 16777216
 IsUnread (Tso timestamp) old new = ⊥
 
 -- how a run of a command may end
-abbrev pub Ends : Command → Status → Option (List ℕ) → Option (List ℕ) → Option (List ℕ) → Option (List ℕ) → Type 0
-Ends command ReadFault left_old left_new held_old held_new = IsUnread command left_old left_new × Keeps held_old held_new
-Ends command NoMemory left_old left_new held_old held_new = Keeps held_old held_new ⊎ Answers command NoMemory left_old left_new held_old held_new
-Ends command status left_old left_new held_old held_new = Answers command status left_old left_new held_old held_new
+abbrev pub Ends : Benches → Command → Status → Option (List ℕ) → Option (List ℕ) → Option (List ℕ) → Option (List ℕ) → Type 0
+Ends benches command ReadFault left_old left_new held_old held_new = IsUnread command left_old left_new × Keeps held_old held_new
+Ends benches command NoMemory left_old left_new held_old held_new = Keeps held_old held_new ⊎ Answers benches command NoMemory left_old left_new held_old held_new
+Ends benches command status left_old left_new held_old held_new = Answers benches command status left_old left_new held_old held_new
 
 -- what a command asks of the source, however it ends: `replay` and `run` at most the limit and one piece, `tso` nothing
 abbrev pub Asks : Command → Option (List ℕ) → Option (List ℕ) → Type 0

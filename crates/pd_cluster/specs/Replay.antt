@@ -1,11 +1,11 @@
 -- The answers of a script, a line after the other over the state that the lines before leave: the oracle's, a cluster for each driver,
--- whose journal is all that is known of it, the metadata that the clusters share, whose calls are all that is known of it, and the
--- messages that wait for the stores that act.
+-- whose journal is all that is known of it, the metadata that the clusters share, whose calls are all that is known of it, the benches of
+-- schedulers, of which what they say is all that is known, and the messages that wait for the stores that act.
 use Rattle.std.specs.FinMap as map
-use Rattle.std.specs.Prelude.{ℕ, ◌+◌, List, [], ◌∷◌, get_or, slice_set, replicate, nat_eq, Option, Some, None, if◌then◌else◌}
+use Rattle.std.specs.Prelude.{◌≡◌, ℕ, ◌+◌, List, [], ◌∷◌, get_or, length, slice_set, replicate, take, nat_eq, Bool, true, false, Option, Some, None, if◌then◌else◌}
 use Rattle.pd_types.specs.declared.oracle.Actor.TheVariants.{Driver, Client}
 use Rattle.pd_types.specs.declared.request.Request.{Request}
-use Rattle.pd_types.specs.declared.request.Request.TheVariants.{Term, Retire}
+use Rattle.pd_types.specs.declared.request.Request.TheVariants.{Term, Retire, Ctl as ToCtl}
 use Rattle.pd_script.specs.declared.act.Act.{Act}
 use Rattle.pd_script.specs.declared.act.Act.TheVariants.{Cell, Lead, Tick, Resign, Take, Tell, Hear, Read, Campaign, Save, Raise, Publish, Probe, Look, Arm, Draw, Ask, Pop}
 use Rattle.pd_script.specs.declared.act.Line.{Line}
@@ -22,13 +22,19 @@ use Rattle.tso_core.specs.declared.reply.Reply.TheVariants.{Won, Lost, Resigned,
 use Rattle.meta_store.specs.declared.record.MetaAnswer.{MetaAnswer}
 use Rattle.meta_store.specs.declared.record.MetaEntry.{MetaEntry}
 use Rattle.pd_state.specs.declared.entry.Entry.{Entry}
+use Rattle.sched_api.specs.declared.scheduler.Said.{Said as Heeded}
+use Rattle.pd_state.specs.BenchHeard.{dropped, names_heard, turns_of}
 use Rattle.pd_state.specs.Calls.{most_calls, next_call}
+use Rattle.pd_state.specs.Ctl.{resigns}
+use Rattle.pd_state.specs.declared.heard.Heard.{Heard}
+use Rattle.pd_state.specs.declared.part.Part.{Part}
 use Rattle.pd_state.specs.Legal.{first_reply, sends_by}
 use Rattle.pd_state.specs.State.{part_after}
 use Rattle.pd_state.specs.declared.reply.Reply.{Reply as Told}
 use Rattle.pd_cluster.specs.Metadata.{answers_to, with_answers}
 use Rattle.pd_script.specs.Scripts.{asker}
 use Rattle.pd_cluster.specs.Answers.{Answer, driver_in, opening_cell}
+use Rattle.pd_cluster.specs.Talks.{Talk, talk_at, talk_left}
 use Rattle.pd_cluster.specs.Streams.{Waiting, left_by, oldest_in, waiting_for, with_messages}
 use Rattle.pd_cluster.specs.declared.lead.BegunLead.{BegunLead}
 use Rattle.pd_cluster.specs.declared.said.Said.{Said}
@@ -56,11 +62,12 @@ act_step w (Draw client) = step_of w (Client client) ToDraw
 act_step w (Ask driver request) = record { reply = Nothing; after = w }
 act_step w (Pop store driver) = record { reply = Nothing; after = w }
 
--- what the clusters keep: by the driver's number what each was asked and replied, and the calls of all of them to the metadata;
--- all with the latest first
+-- what the clusters keep: by the driver's number what each was asked and replied, and the calls of all of them to the metadata,
+-- all with the latest first; and by the driver's number what its bench goes on to say
 pub record Kept : Type 0 where
   pub journals : List (List Entry)
   pub metadata : List MetaEntry
+  pub talks : List Talk
 
 -- the state: the oracle; how far each driver's lead by single steps is; what the clusters keep; and what waits of the messages that they
 -- sent. The leads, the journals and the streams go by the driver's number, and their first places are nobody's.
@@ -108,14 +115,34 @@ asked_besides act _ lead = None
 abbrev pub past_at : List (List Entry) → ℕ → List Entry
 past_at journals driver = get_or journals driver []
 
+-- the tables of a driver's cluster; none without a term
+abbrev pub part_at : Kept → ℕ → Option Part
+part_at kept driver = part_after (past_at kept.journals driver)
+
+-- the names of the driver's schedulers, where the request asks for them
+abbrev pub names_at : Kept → ℕ → Request → List (List ℕ)
+names_at kept driver request = names_heard request (talk_at kept.talks driver).names
+
+-- what the driver's bench says in the turns that the request lets its schedulers take
+abbrev pub said_at : Kept → ℕ → Request → List Heeded
+said_at kept driver request = take (turns_of (part_at kept driver) request (names_at kept driver request)) (talk_at kept.talks driver).said
+
+-- the bench says as much as the request lets its schedulers take turns
+abbrev pub SaysEnough : Kept → ℕ → Request → Type 0
+SaysEnough kept driver request = length (said_at kept driver request) ≡ turns_of (part_at kept driver) request (names_at kept driver request)
+
 -- what the metadata answers to the calls of a request to a driver's cluster
 abbrev pub answers_at : Kept → ℕ → Request → List MetaAnswer
 answers_at kept driver request =
-    answers_to (most_calls (part_after (past_at kept.journals driver)) request) (next_call (part_after (past_at kept.journals driver)) request) kept.metadata driver
+    answers_to (most_calls (part_at kept driver) request) (next_call (part_at kept driver) request (said_at kept driver request)) kept.metadata driver
 
--- the reply to a request to a driver's cluster: the first that applies over the entries before it and these answers
+-- what a request to a driver's cluster hears
+abbrev pub heard_at : Kept → ℕ → Request → Heard
+heard_at kept driver request = record { answers = answers_at kept driver request; bench = said_at kept driver request; names = names_at kept driver request }
+
+-- the reply to a request to a driver's cluster: the first that applies over the entries before it and what it hears
 abbrev pub replied : Kept → ℕ → Request → Told
-replied kept driver request = first_reply (part_after (past_at kept.journals driver)) request (record { answers = answers_at kept driver request })
+replied kept driver request = first_reply driver (part_at kept driver) request (heard_at kept driver request)
 
 -- the entry of a request to a driver's cluster, with the steps that it sends
 abbrev pub served : Kept → ℕ → ℕ → Request → Entry
@@ -124,15 +151,23 @@ served kept driver number request = record {
   line = number;
   request = request;
   answers = answers_at kept driver request;
+  bench = said_at kept driver request;
+  names = names_at kept driver request;
   reply = replied kept driver request;
-  sends = sends_by driver (past_at kept.journals driver) request (replied kept driver request) (record { answers = answers_at kept driver request });
+  sends = sends_by driver (past_at kept.journals driver) request (replied kept driver request) (heard_at kept driver request);
 }
 
--- what the clusters keep with that entry, and with the calls that were answered
+-- the bench of a driver after a request
+abbrev pub talk_after : Kept → ℕ → Request → Talk
+talk_after kept driver request =
+    talk_left (talk_at kept.talks driver) (said_at kept driver request) (dropped (part_at kept driver) request (names_at kept driver request))
+
+-- what the clusters keep with that entry, with the calls that were answered, and with what the bench said
 abbrev pub with_served : Kept → ℕ → ℕ → Request → Kept
 with_served kept driver number request = record {
   journals = slice_set kept.journals driver (served kept driver number request ∷ past_at kept.journals driver);
   metadata = with_answers kept.metadata driver (answers_at kept driver request);
+  talks = slice_set kept.talks driver (talk_after kept driver request);
 }
 
 -- the same with the entry of a request, where there is one
@@ -179,11 +214,27 @@ oracle_turn state line driver stepped = record {
 abbrev pub oracle_line : State → Line → Turned
 oracle_line state line = oracle_turn state line (driver_in line.actor) (act_step state.oracle line.act)
 
+-- a command of pd-ctl's
+abbrev pub is_command : Request → Bool
+is_command (ToCtl moment words) = true
+is_command request = false
+
+-- the request gives up the term of a driver's cluster that has one
+abbrev pub gives_up : Option Part → Request → Bool
+gives_up (Some part) (ToCtl moment words) = resigns words
+gives_up part request = false
+
+-- the oracle once a request to a driver's cluster is served: a driver that resigns by pd-ctl does so as by its own line, but for one in the middle of its
+-- single steps, which goes on
+abbrev pub oracle_left : State → ℕ → Request → Whole
+oracle_left state driver request = if gives_up (part_at state.kept driver) request then (resigned_of state.oracle driver).after else state.oracle
+
 -- a line that asks something of a cluster: the reply, and the steps of its entry are sent
 abbrev pub asked_line : State → ℕ → ℕ → Request → Turned
 asked_line state number driver request = record {
   said = ByCluster (served state.kept driver number request).reply;
   after = record state {
+    oracle = oracle_left state driver request;
     kept = with_served state.kept driver number request;
     streams = slice_set state.streams driver (with_messages (waiting_at state driver) (served state.kept driver number request).sends);
   };
@@ -216,23 +267,33 @@ abbrev pub state_after : State → List Line → State
 state_after state [] = state
 state_after state (line ∷ lines) = state_after (line_step state line).after lines
 
+-- the bench of the driver that a line asks says enough for it
+abbrev pub SaysEnoughFor : State → Option (ℕ × Request) → Type 0
+SaysEnoughFor state None = Unit {0}
+SaysEnoughFor state (Some asked) = SaysEnough state.kept asked.0 asked.1
+
+-- each turn that these lines let schedulers take was taken
+abbrev pub TakeTurns : State → List Line → Type 0
+TakeTurns state [] = Unit {0}
+TakeTurns state (line ∷ lines) = SaysEnoughFor state (request_of line.act) × TakeTurns (line_step state line).after lines
+
 -- the oracle's setup for a script
 abbrev pub setup_of : Script → Setup
 setup_of script = record { drivers = script.drivers; clients = script.clients; cell = opening_cell script.lines }
 
--- so many drivers and clients before the first of these lines
-abbrev pub begun : ℕ → ℕ → List Line → State
-begun drivers clients lines = record {
+-- so many drivers and clients before the first of these lines, where the benches will say this
+abbrev pub begun : List Talk → ℕ → ℕ → List Line → State
+begun talks drivers clients lines = record {
   oracle = opened (record { drivers = drivers; clients = clients; cell = opening_cell lines });
   leads = replicate (drivers + 1) None;
-  kept = record { journals = replicate (drivers + 1) []; metadata = [] };
+  kept = record { journals = replicate (drivers + 1) []; metadata = []; talks = talks };
   streams = replicate (drivers + 1) (waiting_for lines);
 }
 
 -- the state before the first line of a script
-abbrev pub start : Script → State
-start script = begun script.drivers script.clients script.lines
+abbrev pub start : List Talk → Script → State
+start talks script = begun talks script.drivers script.clients script.lines
 
 -- the answers to a script
-abbrev pub answers_of : Script → List Answer
-answers_of script = answers_from (start script) script.lines
+abbrev pub answers_of : List Talk → Script → List Answer
+answers_of talks script = answers_from (start talks script) script.lines

@@ -1,7 +1,7 @@
 -- A response is the outcome that it stands for.
 use Rattle.std.specs.Prelude.{◌≡◌, ◌≤◌, ℕ, List, Option, Result, IsErrOf, string_bytes}
 use Rattle.pd_io.specs.Faults.{Rose}
-use Rattle.pd_cluster.specs.Outcome.{Outcome, IsOutcome, Reads}
+use Rattle.pd_cluster.specs.Outcome.{AreHeededBy, Benches, Outcome, IsOutcome, Reads}
 use Rattle.pd_script.specs.declared.script.Mode.{Mode}
 use Rattle.pd_script.specs.declared.script.Mode.TheVariants.{Replay as ByLine, Run as OnThreads}
 use Rattle.pd_cluster.specs.declared.command.Command.{Command}
@@ -34,11 +34,12 @@ IsFinal NoMemory = ⊥
 IsFinal _ = Unit {0}
 
 -- the response to the text that was taken
-pub record Responds (command : Command) (left_old left_new : Option (List ℕ)) (response : Response) : Type 0 where
+pub record Responds (benches : Benches) (command : Command) (left_old left_new : Option (List ℕ)) (response : Response) : Type 0 where
   pub text : List ℕ
   pub outcome : Outcome
   pub taken : Reads command left_old left_new text
-  pub lawful : IsOutcome command text outcome
+  pub lawful : IsOutcome benches command text outcome
+  pub heeded : AreHeededBy benches command text
   pub gives : Gives outcome response
   pub settled : IsFinal response.status
 

@@ -12,7 +12,7 @@ use Rattle.pd_state.specs.declared.reply.Reply.{Reply}
 use Rattle.pd_state.specs.Gates.{IsSafeThere}
 use Rattle.pd_state.specs.Legal.{IsLegal}
 use Rattle.pd_state.specs.State.{moment_of, part_after}
-use Rattle.pd_state.specs.StepTold.{step_told}
+use Rattle.pd_state.specs.StepTold.{TellsStep}
 use Rattle.pd_cluster.specs.Answers.{Answer}
 use Rattle.pd_cluster.specs.declared.said.Said.{Said}
 use Rattle.pd_cluster.specs.declared.said.Said.TheVariants.{ByOracle, ByCluster, Popped}
@@ -36,19 +36,20 @@ pub record IsSafelySent (journal : List Entry) (message : StepMsg) : Type 0 wher
   pub place : message.entry ≡ length past + 1
   pub safely : SendsSafely past entry message
 
--- the entry of a line, with this reply, sent this step safely
-pub record IsToldSafely (journal : List Entry) (line : ℕ) (reply : Reply) (step : Step) : Type 0 where
+-- the entry of a line, with this reply, sent a step safely that the reply tells
+pub record IsToldSafely (journal : List Entry) (line : ℕ) (reply : Reply) : Type 0 where
   pub message : StepMsg
-  pub step_is : message.step ≡ step
+  pub told : TellsStep reply message.step
   pub sent : IsSafelySent journal message
   pub line_is : sent.entry.line ≡ line
   pub reply_is : sent.entry.reply ≡ reply
 
--- what is printed for a line: a step that a cluster's answer tells was sent by the line's own entry, and a message that a store took by an entry of its driver
+-- what is printed for a line: where a cluster's answer tells a step as sent, the line's own entry sent one that it tells, and a message that a store took was sent
+-- by an entry of its driver
 abbrev pub IsSafeSaid : (ℕ → List Entry) → Line → Said → Type 0
 IsSafeSaid journals line (ByOracle reply) = Unit {0}
 IsSafeSaid journals line (ByCluster reply) =
-    (driver : ℕ) (request : Request) (step : Step) → line.act ≡ Ask driver request → step_told reply ≡ Some step → IsToldSafely (journals driver) line.number reply step
+    (driver : ℕ) (request : Request) (step : Step) → line.act ≡ Ask driver request → TellsStep reply step → IsToldSafely (journals driver) line.number reply
 IsSafeSaid journals line (Popped None) = Unit {0}
 IsSafeSaid journals line (Popped (Some message)) = (line.act ≡ Pop message.to message.driver) × IsSafelySent (journals message.driver) message
 

@@ -10,6 +10,7 @@ use Rattle.pd_script.specs.declared.act.Line.{Line}
 use Rattle.pd_script.specs.declared.script.Script.{Script}
 use Rattle.pd_cluster.specs.Replay.{State, Turned, line_step, past_at, start}
 use Rattle.pd_cluster.specs.Streams.{Waiting, last_sends, left_by, oldest_in, with_message}
+use Rattle.pd_cluster.specs.Talks.{Talk}
 use Rattle.pd_cluster.specs.declared.said.Said.{Said}
 use Rattle.pd_cluster.specs.declared.said.Said.TheVariants.{ByOracle, ByCluster, Popped}
 use Rattle.pd_cluster.specs.declared.streams.TheConstants.{MOST_MESSAGES}
@@ -95,6 +96,6 @@ abbrev pub events_from : ℕ → State → List Line → List Event → List Eve
 events_from driver state [] past = past
 events_from driver state (line ∷ lines) past = events_from driver (line_step state line).after lines (with_line driver line.act (line_step state line) past)
 
--- what happened at a driver in the replay of a script
-abbrev pub events_at : Script → ℕ → List Event
-events_at script driver = events_from driver (start script) script.lines []
+-- what happened at a driver in the replay of a script, where the benches say this
+abbrev pub events_at : List Talk → Script → ℕ → List Event
+events_at talks script driver = events_from driver (start talks script) script.lines []

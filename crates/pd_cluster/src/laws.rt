@@ -11,6 +11,7 @@ ghost use Rattle.pd_cluster.specs.Number.{status_number};
 ghost use Rattle.pd_cluster.specs.Replay.{answers_of};
 ghost use Rattle.pd_cluster.specs.RunText.{post_line, reply_line, run_text, window_line};
 ghost use Rattle.pd_cluster.specs.Streams.{waiting_for};
+ghost use Rattle.pd_cluster.specs.Talks.{Talk};
 ghost use Rattle.pd_cluster.specs.Taking.{AreByStreams, AreInOrder, Event, events_at, kept_for, taken_by};
 ghost use Rattle.pd_cluster.specs.declared.command.Command.TheVariants.{Replay, Run, Tso};
 ghost use Rattle.pd_cluster.specs.declared.said.Said.TheVariants.{ByOracle};
@@ -47,7 +48,7 @@ pub fn the_commands()
 /// A lead, a draw of three timestamps, a second driver, a note that outdates the client that hears it,
 /// and the first driver's tick, by which it learns that its term is over.
 pub fn an_outdated_driver_is_answered()
-    ensures answers { map (λ (answer : Answer). answer.said) (answers_of (record {
+    ensures answers { map (λ (answer : Answer). answer.said) (answers_of [] (record {
       drivers = 2;
       clients = 2;
       lines =
@@ -78,7 +79,7 @@ pub fn an_outdated_driver_is_answered()
 
 /// Each single step is the step that its line names: a race of two drivers, and a draw.
 pub fn single_steps_are_answered()
-    ensures answers { map (λ (answer : Answer). answer.said) (answers_of (record {
+    ensures answers { map (λ (answer : Answer). answer.said) (answers_of [] (record {
       drivers = 2;
       clients = 1;
       lines =
@@ -151,9 +152,9 @@ pub fn the_lines_of_a_run()
 
 /// In which order stores take what a driver's cluster sends, for every list of sends and answers: the
 /// streams answer what is due and nothing else, and at most 64 messages wait. So do the answers of a
-/// replay, at each of its drivers.
+/// replay, at each of its drivers, whatever its benches say.
 pub fn stores_take_the_oldest_message()
     ensures order { (lines : List Line) → (events : List Event) → AreByStreams (waiting_for lines) events ↔ AreInOrder lines events }
     ensures most { (lines : List Line) → (store : ℕ) → (events : List Event) → length (kept_for lines store events) ≤ length (taken_by store events) + 64 }
-    ensures replayed { (script : Script) → (driver : ℕ) → driver ≤ script.drivers → AreInOrder script.lines (events_at script driver) }
+    ensures replayed { (talks : List Talk) → (script : Script) → (driver : ℕ) → driver ≤ script.drivers → AreInOrder script.lines (events_at talks script driver) }
 {}

@@ -4,6 +4,7 @@ use crate::status::Status;
 use crate::top::pd_top;
 use pd_io::{SureSink, SureSource};
 use pd_types::{Actor, Gate, OpenGate};
+use sched_api::Bench;
 use std::alloc::Global;
 use std::process::Abort;
 use std::sync::Wait;
@@ -22,7 +23,15 @@ fn run_by<R: Threads + Wait + Sync, G: Gate + Sync>(
     words.push(String::from_str(alloc, "run")?)?;
     let mut source = SureSource::new(script.as_bytes().to_vec(alloc)?);
     let mut sink = SureSink::new(alloc);
-    let status = pd_top(rt, alloc, &words, &mut source, &mut sink, gate);
+    let status = pd_top(
+        rt,
+        alloc,
+        &words,
+        &mut source,
+        &mut sink,
+        &mut Vec::<Bench>::new(alloc),
+        gate,
+    );
     match String::from_utf8(sink.bytes().to_vec(alloc)?) {
         Ok(text) => Ok((status, text)),
         Err(_) => Err(Fail::new("no text")),

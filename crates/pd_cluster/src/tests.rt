@@ -3,6 +3,7 @@ use crate::status::Status;
 use crate::top::{MAX_BYTES, pd_top};
 use pd_io::{MemSink, MemSource, SureSink, SureSource};
 use pd_types::OpenGate;
+use sched_api::Bench;
 use std::alloc::{AllocError, Global};
 use std::process::Abort;
 use std::sync::Wait;
@@ -23,7 +24,33 @@ fn words_of(alloc: Global, words: &[&str]) -> Result<Vec<String>, AllocError> {
     Ok(all)
 }
 
-// Runs `replay` over a script, and compares how it ends and what it writes.
+// Runs `replay` over a script and these benches, and compares how it ends and what it writes.
+pub fn expect_with<R: Threads + Wait + Sync + Abort>(
+    rt: &R,
+    alloc: Global,
+    script: &str,
+    benches: &mut Vec<Bench>,
+    status: Status,
+    written: &str,
+) -> Result<(), AllocError> {
+    let words = words_of(alloc, &["replay"])?;
+    let mut source = SureSource::new(script.as_bytes().to_vec(alloc)?);
+    let mut sink = SureSink::new(alloc);
+    let ended = pd_top(
+        rt,
+        alloc,
+        &words,
+        &mut source,
+        &mut sink,
+        benches,
+        &OpenGate,
+    );
+    assert_eq!(rt; ended, status, "{script}");
+    assert_eq!(rt; sink.bytes(), written.as_bytes(), "{script}");
+    Ok(())
+}
+
+// The same without benches.
 fn expect<R: Threads + Wait + Sync + Abort>(
     rt: &R,
     alloc: Global,
@@ -31,13 +58,7 @@ fn expect<R: Threads + Wait + Sync + Abort>(
     status: Status,
     written: &str,
 ) -> Result<(), AllocError> {
-    let words = words_of(alloc, &["replay"])?;
-    let mut source = SureSource::new(script.as_bytes().to_vec(alloc)?);
-    let mut sink = SureSink::new(alloc);
-    let ended = pd_top(rt, alloc, &words, &mut source, &mut sink, &OpenGate);
-    assert_eq!(rt; ended, status, "{script}");
-    assert_eq!(rt; sink.bytes(), written.as_bytes(), "{script}");
-    Ok(())
+    expect_with(rt, alloc, script, &mut Vec::new(alloc), status, written)
 }
 
 // Worked rows. In each line an act stands in front of `>` and its answer.
@@ -326,7 +347,7 @@ patrol 1 1000 16 > patrol regions 1 ok 0 split 0 plan 1 no-plan 0 added 0 buried
 ];
 
 // The script of a row.
-fn script_of(alloc: Global, row: &str) -> Result<String, Fail> {
+pub fn script_of(alloc: Global, row: &str) -> Result<String, Fail> {
     let mut script = String::new(alloc);
     for line in row.lines() {
         let Some((act, _)) = line.split_once('>') else {
@@ -338,7 +359,7 @@ fn script_of(alloc: Global, row: &str) -> Result<String, Fail> {
 }
 
 // The answers of a row, each with its line's number.
-fn answers_of(alloc: Global, row: &str) -> Result<String, Fail> {
+pub fn answers_of(alloc: Global, row: &str) -> Result<String, Fail> {
     let mut answers = String::new(alloc);
     let mut number = 1u64;
     for line in row.lines() {
@@ -479,7 +500,7 @@ fn the_first_line_at_fault_or_limit_is_named(rt: HostRuntime) -> Result<(), Fail
             "line 2: reason 9\n",
         ),
         (
-            "lead 1 1000\nschedule 1 1000\n",
+            "lead 1 1000\nreschedule 1 1000\n",
             Status::Refused,
             "line 2: reason 3\n",
         ),
@@ -496,6 +517,8 @@ fn the_first_line_at_fault_or_limit_is_named(rt: HostRuntime) -> Result<(), Fail
 fn one_line_too_many_is_counted(rt: HostRuntime) -> Result<(), Fail> {
     let rows = [
         ("tick 1 1\n", 65537, "limit events 65537\n"),
+        ("ctl 1 1 x\n", 1025, "limit reports 1025\n"),
+        ("patrol 1 1 1\n", 1025, "limit reports 1025\n"),
         ("lead 1 1\n", 1025, "limit leads 1025\n"),
         ("publish 1\n", 1025, "limit leads 1025\n"),
     ];
@@ -522,7 +545,15 @@ fn expect_fault<R: Threads + Wait + Sync + Abort>(
     let bytes = SCRIPT.as_bytes().to_vec(alloc)?;
     let mut source = MemSource::new(bytes, 5, vec![in alloc; read_fails]?);
     let mut sink = MemSink::new(alloc, 1, vec![in alloc; write_fails]?);
-    let ended = pd_top(rt, alloc, &words, &mut source, &mut sink, &OpenGate);
+    let ended = pd_top(
+        rt,
+        alloc,
+        &words,
+        &mut source,
+        &mut sink,
+        &mut Vec::<Bench>::new(alloc),
+        &OpenGate,
+    );
     assert_eq!(rt; ended, status);
     assert_eq!(rt; sink.bytes(), written.as_bytes());
     Ok(())
@@ -552,7 +583,15 @@ fn expect_usage<R: Threads + Wait + Sync + Abort>(
     let words = words_of(alloc, words)?;
     let mut source = SureSource::new(Vec::new(alloc));
     let mut sink = SureSink::new(alloc);
-    let ended = pd_top(rt, alloc, &words, &mut source, &mut sink, &OpenGate);
+    let ended = pd_top(
+        rt,
+        alloc,
+        &words,
+        &mut source,
+        &mut sink,
+        &mut Vec::<Bench>::new(alloc),
+        &OpenGate,
+    );
     assert_eq!(rt; ended, Status::Usage);
     let usage = "usage: pd_cluster replay | run | gen FROM N | tso N\n";
     assert_eq!(rt; sink.bytes(), usage.as_bytes());
@@ -580,7 +619,15 @@ fn expect_parts<R: Threads + Wait + Sync + Abort>(
     let words = words_of(alloc, &["tso", timestamp])?;
     let mut source = MemSource::new(Vec::new(alloc), 1, vec![in alloc; 1]?);
     let mut sink = SureSink::new(alloc);
-    let ended = pd_top(rt, alloc, &words, &mut source, &mut sink, &OpenGate);
+    let ended = pd_top(
+        rt,
+        alloc,
+        &words,
+        &mut source,
+        &mut sink,
+        &mut Vec::<Bench>::new(alloc),
+        &OpenGate,
+    );
     assert_eq!(rt; ended, Status::Done);
     assert_eq!(rt; sink.bytes(), text.as_bytes());
     Ok(())
@@ -612,7 +659,15 @@ fn one_byte_too_many_is_refused(rt: HostRuntime) -> Result<(), Fail> {
     let bytes = vec![in alloc; b'x'; MAX_BYTES + 1]?;
     let mut source = SureSource::new(bytes);
     let mut sink = SureSink::new(alloc);
-    let ended = pd_top(&rt, alloc, &words, &mut source, &mut sink, &OpenGate);
+    let ended = pd_top(
+        &rt,
+        alloc,
+        &words,
+        &mut source,
+        &mut sink,
+        &mut Vec::<Bench>::new(alloc),
+        &OpenGate,
+    );
     assert_eq!(rt; ended, Status::Limit);
     assert_eq!(rt; sink.bytes(), b"limit bytes 16777217\n".as_slice());
     Ok(())

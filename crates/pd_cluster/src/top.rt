@@ -1,8 +1,8 @@
 // The program over whatever source and sink it is handed.
-ghost use Rattle.std.specs.Prelude.{◌+◌, ◌≡◌, ◌≢◌, ◌≤◌, IfOk, IfNone, IfSome, IsErrOf, length, map, string_bytes};
+ghost use Rattle.std.specs.Prelude.{◌+◌, ◌≡◌, ◌≢◌, ◌≤◌, IfOk, IfNone, IfSome, IsErrOf, OnOk, length, map, string_bytes};
 ghost use Rattle.std.specs.Io.KnownBytes.{Keeps};
 ghost use Rattle.pd_cluster.specs.Command.{command_of};
-ghost use Rattle.pd_cluster.specs.Outcome.{Asks, TellsParts, Ends, IsHeadline, IsOutcome, IsScriptRun, IsStepHeadline, IsUnread, Leaves, Outcome, limit_bytes, limited_text, refusal_outcome, script_outcome, tso_outcome, usage};
+ghost use Rattle.pd_cluster.specs.Outcome.{AreHeededBy, AreHeededIn, Asks, TellsParts, Ends, IsHeadline, IsHeededBy, IsOutcome, IsScriptRun, IsStepHeadline, IsUnheard, IsUnread, Leaves, Outcome, limit_bytes, limited_text, refusal_outcome, script_outcome, tso_outcome, usage};
 ghost use Rattle.pd_cluster.specs.Response.{Gives, HasEndCause, HasFailureCause, IsFinal, Responds, command_in, outcome_of};
 ghost use Rattle.pd_cluster.specs.RunOutcome.{TellsRun};
 ghost use Rattle.pd_cluster.specs.declared.status.Status.TheVariants.{ReadFault, WriteFault};
@@ -21,6 +21,7 @@ use pd_io::{PutFault, Sink, Source};
 use pd_lines::{ReadRefusal, put_all, read_all};
 use pd_script::{Limited, Mode, Reason, Script, ScriptRefusal, read_script};
 use pd_types::{Gate, NoMemory, unpack};
+use sched_api::Seated;
 use std::alloc::{AllocError, Global};
 use std::sync::Wait;
 use std::thread::Threads;
@@ -97,6 +98,7 @@ fn limited_word(what: Limited) -> &'static str
         Limited::Drivers => "drivers",
         Limited::Clients => "clients",
         Limited::Stores => "stores",
+        Limited::Reports => "reports",
         Limited::Leads => "leads",
     }
 }
@@ -125,15 +127,20 @@ fn refusal_response(alloc: Global, refusal: ScriptRefusal) -> Result<Response, N
     }
 }
 
-// The response to a script.
-fn script_response(alloc: Global, text: &[u8]) -> Result<Response, NoMemory>
+// The response to a script, over the drivers' benches of schedulers.
+fn script_response<B: Seated>(
+    alloc: Global,
+    text: &[u8],
+    benches: &mut Vec<B>,
+) -> Result<Response, NoMemory>
     requires { length text.now ≤ 16777216 }
-    ensures gives { IfOk result (Gives (script_outcome (script_of ByLine text.now))) }
+    ensures gives { IfOk result (Gives (script_outcome (record { old = map B.seats benches.old.items; new = map B.seats benches.new.items }) (script_of ByLine text.now))) }
+    ensures heeded { OnOk result (AreHeededIn (record { old = map B.seats benches.old.items; new = map B.seats benches.new.items }) (script_of ByLine text.now)) }
     ensures settled { IfOk result (λ r. IsFinal r.status) }
 {
     match read_script(alloc, text, Mode::Replay) {
         Ok(script) => {
-            let text = replay_script(alloc, script)?;
+            let text = replay_script(alloc, script, benches)?;
             Ok(Response {
                 status: Status::Done,
                 text,
@@ -183,38 +190,43 @@ fn threads_response<R: Threads + Wait + Sync, G: Gate + Sync>(
 }
 
 // The response to a text, as a script in this mode.
-fn text_response<R: Threads + Wait + Sync, G: Gate + Sync>(
+fn text_response<R: Threads + Wait + Sync, B: Seated, G: Gate + Sync>(
     rt: &R,
     alloc: Global,
     mode: Mode,
     text: &[u8],
+    benches: &mut Vec<B>,
     gate: &G,
 ) -> Result<Response, NoMemory>
     requires { length text.now ≤ 16777216 }
-    ensures answered { IfOk result (λ r. IsOutcome (command_in mode) text.now (outcome_of r)) }
+    ensures answered { IfOk result (λ r. IsOutcome (record { old = map B.seats benches.old.items; new = map B.seats benches.new.items }) (command_in mode) text.now (outcome_of r)) }
+    ensures heeded { OnOk result (AreHeededBy (record { old = map B.seats benches.old.items; new = map B.seats benches.new.items }) (command_in mode) text.now) }
+    ensures unheard { IsUnheard (record { old = map B.seats benches.old.items; new = map B.seats benches.new.items }) (command_in mode) }
     ensures settled { IfOk result (λ r. IsFinal r.status) }
 {
     match mode {
-        Mode::Replay => script_response(alloc, text),
+        Mode::Replay => script_response(alloc, text, benches),
         Mode::Run => threads_response(rt, alloc, text, gate),
     }
 }
 
 // The response to what the source gives, as a script in this mode.
-fn source_response<R: Threads + Wait + Sync, S: Source, G: Gate + Sync>(
+fn source_response<R: Threads + Wait + Sync, S: Source, B: Seated, G: Gate + Sync>(
     rt: &R,
     alloc: Global,
     mode: Mode,
     source: &mut S,
+    benches: &mut Vec<B>,
     gate: &G,
 ) -> Result<Response, Failure>
-    ensures answered { IfOk result (Responds (command_in mode) (S.left source.old) (S.left source.new)) }
+    ensures answered { IfOk result (Responds (record { old = map B.seats benches.old.items; new = map B.seats benches.new.items }) (command_in mode) (S.left source.old) (S.left source.new)) }
+    ensures unheard { IsUnheard (record { old = map B.seats benches.old.items; new = map B.seats benches.new.items }) (command_in mode) }
     ensures unread { IsErrOf result Failure.ReadFault → TakesFew (S.left source.old) (S.left source.new) 16777216 }
     ensures asked { TakesFew (S.left source.old) (S.left source.new) (16777216 + 4096) }
     ensures cause { HasFailureCause (S.faults source.old) (S.faults source.new) result }
 {
     match read_all(alloc, source, MAX_BYTES) {
-        Ok(text) => text_response(rt, alloc, mode, text.as_slice(), gate).map_err(
+        Ok(text) => text_response(rt, alloc, mode, text.as_slice(), benches, gate).map_err(
             |_| Failure::NoMemory,
         ),
         Err(ReadRefusal::TooLong) => limit_response(alloc).map_err(|_| Failure::NoMemory),
@@ -224,21 +236,23 @@ fn source_response<R: Threads + Wait + Sync, S: Source, G: Gate + Sync>(
 }
 
 // What is to be written, for a command and what the source gives.
-fn respond<R: Threads + Wait + Sync, S: Source, G: Gate + Sync>(
+fn respond<R: Threads + Wait + Sync, S: Source, B: Seated, G: Gate + Sync>(
     rt: &R,
     alloc: Global,
     command: Command,
     source: &mut S,
+    benches: &mut Vec<B>,
     gate: &G,
 ) -> Result<Response, Failure>
-    ensures answered { IfOk result (Responds command (S.left source.old) (S.left source.new)) }
+    ensures answered { IfOk result (Responds (record { old = map B.seats benches.old.items; new = map B.seats benches.new.items }) command (S.left source.old) (S.left source.new)) }
+    ensures unheard { IsUnheard (record { old = map B.seats benches.old.items; new = map B.seats benches.new.items }) command }
     ensures unread { IsErrOf result Failure.ReadFault → IsUnread command (S.left source.old) (S.left source.new) }
     ensures asked { Asks command (S.left source.old) (S.left source.new) }
     ensures cause { HasFailureCause (S.faults source.old) (S.faults source.new) result }
 {
     match command {
-        Command::Replay => source_response(rt, alloc, Mode::Replay, source, gate),
-        Command::Run => source_response(rt, alloc, Mode::Run, source, gate),
+        Command::Replay => source_response(rt, alloc, Mode::Replay, source, benches, gate),
+        Command::Run => source_response(rt, alloc, Mode::Run, source, benches, gate),
         Command::Tso { timestamp } => {
             tso_response(alloc, timestamp).map_err(|_| Failure::NoMemory)
         }
@@ -260,15 +274,17 @@ fn write_out<K: Sink>(response: &Response, sink: &mut K) -> Status
 }
 
 /// Does all that the program does: what the words of the command line ask for, from the source to
-/// the sink. The whole script is read and checked before a line of it runs. `run` alone starts
+/// the sink. The whole script is read and checked before a line of it runs. `replay` alone asks the
+/// drivers' benches of schedulers, the first of which is the first driver's. `run` alone starts
 /// threads and asks the gate: each line is answered once the gate lets its actor, or was asked
 /// 1,000,000 times, and the gate hears of the answer.
-pub fn pd_top<R: Threads + Wait + Sync, S: Source, K: Sink, G: Gate + Sync>(
+pub fn pd_top<R: Threads + Wait + Sync, S: Source, K: Sink, B: Seated, G: Gate + Sync>(
     rt: &R,
     alloc: Global,
     words: &[String],
     source: &mut S,
     sink: &mut K,
+    benches: &mut Vec<B>,
     gate: &G,
 ) -> Status
     // Words in no form: the usage text, or a fault of the sink, or want of memory. Nothing is read.
@@ -277,13 +293,19 @@ pub fn pd_top<R: Threads + Wait + Sync, S: Source, K: Sink, G: Gate + Sync>(
     ensures unread { IfNone (command_of (map string_bytes words.now)) (Keeps (S.left source.old) (S.left source.new)) }
 
     // A command: the outcome of the text that was read, whose answers are a safe history; of `run` that of any lawful run.
-    ensures answer { IfSome (command_of (map string_bytes words.now)) (λ command. Ends command result (S.left source.old) (S.left source.new) (K.held sink.old) (K.held sink.new)) }
+    ensures answer { IfSome (command_of (map string_bytes words.now)) (λ command. Ends (record { old = map B.seats benches.old.items; new = map B.seats benches.new.items }) command result (S.left source.old) (S.left source.new) (K.held sink.old) (K.held sink.new)) }
 
     // The headline: what was printed are answers to the lines that were read, and grants no timestamp twice.
     ensures history { IfSome (command_of (map string_bytes words.now)) (λ command. IsHeadline command result (S.left source.old) (S.left source.new) (K.held sink.old) (K.held sink.new)) }
 
     // The headline of placement steps: each step that was printed was sent by an entry of a driver's journal, and was safe there.
     ensures steps { IfSome (command_of (map string_bytes words.now)) (λ command. IsStepHeadline command result (S.left source.old) (S.left source.new) (K.held sink.old) (K.held sink.new)) }
+
+    // The proposals in the answers to a driver's lines are, in order, what its bench said; of `replay` alone a bench is asked.
+    ensures heeded { IfSome (command_of (map string_bytes words.now)) (λ command. IsHeededBy (record { old = map B.seats benches.old.items; new = map B.seats benches.new.items }) command result (S.left source.old) (S.left source.new) (K.held sink.old) (K.held sink.new)) }
+
+    // Words in no form ask no bench.
+    ensures unasked { IfNone (command_of (map string_bytes words.now)) (map B.seats benches.new.items ≡ map B.seats benches.old.items) }
 
     // What is asked of the source, however it ends.
     ensures asked { IfSome (command_of (map string_bytes words.now)) (λ command. Asks command (S.left source.old) (S.left source.new)) }
@@ -297,7 +319,7 @@ pub fn pd_top<R: Threads + Wait + Sync, S: Source, K: Sink, G: Gate + Sync>(
             Ok(response) => write_out(&response, sink),
             Err(_) => Status::NoMemory,
         },
-        Some(command) => match respond(rt, alloc, command, source, gate) {
+        Some(command) => match respond(rt, alloc, command, source, benches, gate) {
             Ok(response) => write_out(&response, sink),
             Err(Failure::ReadFault) => Status::ReadFault,
             Err(Failure::NoMemory) => Status::NoMemory,

@@ -14,9 +14,10 @@ use Rattle.pd_types.specs.declared.region.Peer.{Peer}
 use Rattle.pd_types.specs.declared.region.RegionBeat.{RegionBeat}
 use Rattle.pd_types.specs.declared.region.Role.{Role}
 use Rattle.pd_types.specs.declared.region.Role.TheVariants.{Voter, Learner}
-use Rattle.pd_types.specs.declared.request.Request.TheVariants.{Hello, Alive, Beat, Rule, Unrule, Check, Patrol}
+use Rattle.pd_types.specs.declared.request.Request.TheVariants.{Hello, Alive, Beat, Rule, Unrule, Check, Patrol, Schedule, Ctl}
 use Rattle.pd_types.specs.declared.store.Label.{Label}
 use Rattle.pd_script.specs.Asks.{alive_of, asked_of, beat_of, greeted, head_of, hello_of, labels_or, region_of, reported, troubled_of}
+use Rattle.pd_script.specs.CtlLines.{ctl_by, schedule_of}
 use Rattle.pd_script.specs.CheckLines.{check_of, patrol_of}
 use Rattle.pd_script.specs.Formed.{IsAsked, IsDown, IsId, IsPeer, IsReport, IsSpoken}
 use Rattle.pd_script.specs.Forms.{Item, address_form, and_then, before_colon, down_of, downs_from, downs_of, ids_from, in_front, is_colon, items_of, key_form, peer_of, peers_from, peers_of, pending_of, role_of, spelled_or, unless_colon}
@@ -30,7 +31,7 @@ use Rattle.pd_script.specs.declared.place.Place.TheVariants.{Driver, Id, Moment,
 use Rattle.pd_script.specs.declared.refusal.Reason.{Reason}
 use Rattle.pd_script.specs.declared.refusal.Reason.TheVariants.{BadWord, ExtraWord, MissingWord}
 use Rattle.pd_script.specs.declared.request_verb.RequestVerb.{RequestVerb}
-use Rattle.pd_script.specs.declared.request_verb.RequestVerb.TheVariants.{Hello as ToHello, Alive as ToAlive, Beat as ToBeat, Rule as ToRule, Unrule as ToUnrule, Check as ToCheck, Patrol as ToPatrol}
+use Rattle.pd_script.specs.declared.request_verb.RequestVerb.TheVariants.{Hello as ToHello, Alive as ToAlive, Beat as ToBeat, Rule as ToRule, Unrule as ToUnrule, Check as ToCheck, Patrol as ToPatrol, Schedule as ToSchedule, Ctl as ToCtl}
 use Rattle.pd_script.proofs.Results.{InPlace, in_place, no_fine, same_ok, then_read}
 
 -- what a test lets through
@@ -325,6 +326,24 @@ patrol_ok (driver ∷ moment ∷ workers ∷ []) a is =
     subst IsFine (same_ok (record { driver = d.0; request = Patrol m.0 w.0 }) a w.2) (record { pos = read_driver driver d.0 d.1; asked = (read_moment moment m.0 m.1, omega (arith, range.low), range.high) })
 patrol_ok (d ∷ m ∷ w ∷ more ∷ rest) a is = no_fine ExtraWord a is
 
+schedule_ok : (ws : List (List ℕ)) (a : Asked) → schedule_of ws ≡ Ok a → IsFine a
+schedule_ok [] a is = no_fine MissingWord a is
+schedule_ok (d ∷ []) a is = no_fine MissingWord a is
+schedule_ok (driver ∷ moment ∷ []) a is =
+    let d = then_read (read_place Driver driver) _ a is in
+    let m = then_read (read_place Moment moment) _ a d.2 in
+    subst IsFine (same_ok (record { driver = d.0; request = Schedule m.0 }) a m.2) (record { pos = read_driver driver d.0 d.1; asked = read_moment moment m.0 m.1 })
+schedule_ok (d ∷ m ∷ more ∷ rest) a is = no_fine ExtraWord a is
+
+ctl_ok : (ws : List (List ℕ)) (command : List ℕ) (a : Asked) → ctl_by ws command ≡ Ok a → IsFine a
+ctl_ok [] command a is = no_fine MissingWord a is
+ctl_ok (d ∷ []) command a is = no_fine MissingWord a is
+ctl_ok (d ∷ m ∷ []) command a is = no_fine MissingWord a is
+ctl_ok (driver ∷ moment ∷ first ∷ more) command a is =
+    let d = then_read (read_place Driver driver) _ a is in
+    let m = then_read (read_place Moment moment) _ a d.2 in
+    subst IsFine (same_ok (record { driver = d.0; request = Ctl m.0 command }) a m.2) (record { pos = read_driver driver d.0 d.1; asked = read_moment moment m.0 m.1 })
+
 pub asked_ok : (verb : RequestVerb) (rest : List ℕ) (a : Asked) → asked_of verb rest ≡ Ok a → IsFine a
 asked_ok ToHello rest a is = hello_ok (words rest) a is
 asked_ok ToAlive rest a is = alive_ok (words rest) a is
@@ -333,3 +352,5 @@ asked_ok ToRule rest a is = rule_ok (words rest) (trimmed (behind_word (behind_w
 asked_ok ToUnrule rest a is = unrule_ok (words rest) a is
 asked_ok ToCheck rest a is = check_ok (words rest) a is
 asked_ok ToPatrol rest a is = patrol_ok (words rest) a is
+asked_ok ToSchedule rest a is = schedule_ok (words rest) a is
+asked_ok ToCtl rest a is = ctl_ok (words rest) (trimmed (behind_word (behind_word rest))) a is

@@ -38,7 +38,7 @@ use Rattle.pd_script.specs.declared.verb.Places.TheVariants.{One, Two, Three}
 use Rattle.pd_script.specs.declared.verb.Verb.{Verb}
 use Rattle.pd_script.proofs.Formed.{IsFine, asked_ok}
 use Rattle.pd_script.proofs.Greatest.{at_least_one}
-use Rattle.pd_script.proofs.LawfulLines.{AreAbove, are_above, clients_greatest, drivers_greatest, few_speakers, numbered_from, rising_from, same_actors, same_leads}
+use Rattle.pd_script.proofs.LawfulLines.{AreAbove, are_above, clients_greatest, drivers_greatest, few_speakers, numbered_from, rising_from, same_actors, same_leads, same_reports}
 use Rattle.pd_script.proofs.Results.{InPlace, in_place, no_fine, same_ok}
 use Rattle.pd_script.proofs.SaysLemmas.{placed_numbers, same_says}
 use Rattle.pd_script.proofs.Unbroken.{all_within}
@@ -233,6 +233,7 @@ unbroken_lawful mode events script unbroken read above is =
       most_clients = clients_greatest events;
       events = grind (arith, length-map, kept.few);
       speakers = few_speakers events kept.stores;
+      reports = omega (arith, same_reports events, kept.reports);
       leads = omega (arith, same_leads events, kept.leads);
     })
 

@@ -13,7 +13,7 @@ use Rattle.pd_script.specs.Grammar.{AtFault, and_event, and_line, events_from, r
 use Rattle.pd_script.specs.Lawful.{AreAtMost, IsGreatest, actor_in, clients_named, drivers_named, speaking}
 use Rattle.pd_types.specs.declared.oracle.Actor.{Actor}
 use Rattle.pd_types.specs.declared.oracle.Actor.TheVariants.{Driver as ByDriver, Client as ByClient, Store as ByStore}
-use Rattle.pd_script.specs.Scripts.{act_by, act_of, actor_by, actor_of, client_of, driver_of, greatest, greatest_in, if_client, if_driver, is_lead, leads_in, line_of, asker, store_by, store_in, store_of, stores_from, stores_in, with_stores}
+use Rattle.pd_script.specs.Scripts.{act_by, act_of, actor_by, actor_of, client_of, driver_of, greatest, greatest_in, if_client, if_driver, is_lead, is_report, leads_in, reports_in, line_of, asker, store_by, store_in, store_of, stores_from, stores_in, with_stores}
 use Rattle.pd_script.specs.Says.{Says, named_client, named_driver}
 use Rattle.pd_script.specs.Table.{row}
 use Rattle.pd_script.specs.Words.{RawLine}
@@ -243,6 +243,13 @@ all_speak known (e ∷ es) =
 
 pub few_speakers : (events : List Numbered) → stores_in events ≤ 256 → AreAtMost 256 (flat_map (λ (line : Line). speaking line.act) (map line_of events))
 few_speakers events few = record { kept = stores_from [] events; few = few; all = all_speak [] events }
+
+-- how many lines ask for a report
+pub same_reports : (events : List Numbered) → count_by (λ (line : Line). is_report line.act) (map line_of events) ≡ reports_in events
+same_reports [] = refl
+same_reports (e ∷ es) =
+    sum_by-cons (λ (line : Line). cond (is_report line.act) 1 0) (line_of e) (map line_of es) ∙ ap (λ (n : ℕ). cond (is_report (act_of e.event)) 1 0 + n) (same_reports es)
+    ∙ sym (sum_by-cons (λ (n : Numbered). cond (is_report (act_of n.event)) 1 0) e es)
 
 -- how many lines begin a lead or end one
 pub same_leads : (events : List Numbered) → count_by (λ (line : Line). is_lead line.act) (map line_of events) ≡ leads_in events

@@ -1,6 +1,6 @@
 -- The lines that ask a driver's cluster (own choice): those by which stores speak, `hello S D NOW ADDRESS [LABELS]`,
 -- `alive S D NOW` and `beat S D NOW R START END CONF VER LEADER PEERS [DOWN] [PENDING]`, and the driver's own of
--- RuleLines and CheckLines.
+-- RuleLines, CheckLines and CtlLines.
 use Rattle.std.specs.Prelude.{ℕ, List, [], ◌∷◌, codes, length, take, nat_lt, Option, Result, Ok, Err, if◌then◌else◌}
 use Rattle.std.specs.List.{find}
 use Rattle.std.specs.Str.{bytes_eq}
@@ -10,13 +10,14 @@ use Rattle.pd_types.specs.declared.store.Label.{Label}
 use Rattle.pd_script.specs.Forms.{address_form, and_then, downs_of, key_form, labels_form, peers_of, pending_of}
 use Rattle.pd_script.specs.Places.{read_place}
 use Rattle.pd_script.specs.CheckLines.{check_of, patrol_of}
+use Rattle.pd_script.specs.CtlLines.{ctl_of, schedule_of}
 use Rattle.pd_script.specs.RuleLines.{rule_of, unrule_of}
 use Rattle.pd_script.specs.Words.{words}
 use Rattle.pd_script.specs.declared.ask.Asked.{Asked}
 use Rattle.pd_script.specs.declared.ask.Head.{Head}
 use Rattle.pd_script.specs.declared.ask.Troubled.{Troubled}
 use Rattle.pd_script.specs.declared.request_verb.RequestVerb.{RequestVerb}
-use Rattle.pd_script.specs.declared.request_verb.RequestVerb.TheVariants.{Hello as ToHello, Alive as ToAlive, Beat as ToBeat, Rule as ToRule, Unrule as ToUnrule, Check as ToCheck, Patrol as ToPatrol}
+use Rattle.pd_script.specs.declared.request_verb.RequestVerb.TheVariants.{Hello as ToHello, Alive as ToAlive, Beat as ToBeat, Rule as ToRule, Unrule as ToUnrule, Check as ToCheck, Patrol as ToPatrol, Schedule as ToSchedule, Ctl as ToCtl}
 use Rattle.pd_script.specs.declared.place.Place.TheVariants.{Driver, Id, Moment, Version}
 use Rattle.pd_script.specs.declared.refusal.Reason.{Reason}
 use Rattle.pd_script.specs.declared.refusal.Reason.TheVariants.{ExtraWord, MissingWord}
@@ -30,10 +31,12 @@ request_word ToRule = codes "rule"
 request_word ToUnrule = codes "unrule"
 request_word ToCheck = codes "check"
 request_word ToPatrol = codes "patrol"
+request_word ToSchedule = codes "schedule"
+request_word ToCtl = codes "ctl"
 
 -- all of them
 abbrev pub request_verbs : List RequestVerb
-request_verbs = ToHello ∷ ToAlive ∷ ToBeat ∷ ToRule ∷ ToUnrule ∷ ToCheck ∷ ToPatrol ∷ []
+request_verbs = ToHello ∷ ToAlive ∷ ToBeat ∷ ToRule ∷ ToUnrule ∷ ToCheck ∷ ToPatrol ∷ ToSchedule ∷ ToCtl ∷ []
 
 -- the one that a word names
 abbrev pub request_verb_of : List ℕ → Option RequestVerb
@@ -101,3 +104,5 @@ asked_of ToRule rest = rule_of rest
 asked_of ToUnrule rest = unrule_of (words rest)
 asked_of ToCheck rest = check_of (words rest)
 asked_of ToPatrol rest = patrol_of (words rest)
+asked_of ToSchedule rest = schedule_of (words rest)
+asked_of ToCtl rest = ctl_of rest

@@ -5,7 +5,7 @@ use Rattle.pd_types.specs.declared.region.Peer.{Peer}
 use Rattle.pd_types.specs.declared.region.RegionBeat.{RegionBeat}
 use Rattle.pd_types.specs.declared.region.Role.TheVariants.{Voter, Learner}
 use Rattle.pd_types.specs.declared.request.Request.{Request}
-use Rattle.pd_types.specs.declared.request.Request.TheVariants.{Hello, Alive, Beat, Rule, Unrule, Check, Patrol, Term, Retire}
+use Rattle.pd_types.specs.declared.request.Request.TheVariants.{Hello, Alive, Beat, Rule, Unrule, Check, Patrol, Schedule, Ctl, Term, Retire}
 use Rattle.pd_lines.specs.Labels.{AreLabels}
 use Rattle.pd_lines.specs.Plain.{is_plain}
 use Rattle.pd_script.specs.RuleLines.{is_name}
@@ -43,7 +43,8 @@ pub record IsSpoken (store moment : ℕ) : Type 0 where
 
 -- what a line may ask: a store's request with an address of 1 to 64 plain characters and labels, alone, or with a region; of a
 -- driver that a rule is set, by a text of at most 4,096 bytes, or removed, by its names; and of a driver
--- that a region is checked, by its id, or all of them, by 1 to 16 workers
+-- that a region is checked, by its id, or all of them, by 1 to 16 workers, that a scheduler proposes, or that any words of pd-ctl
+-- are carried out
 abbrev pub IsAsked : Request → Type 0
 IsAsked (Hello store moment address labels) = IsSpoken store moment × (is_plain 64 address ≡ true) × AreLabels labels
 IsAsked (Alive store moment) = IsSpoken store moment
@@ -52,5 +53,7 @@ IsAsked (Rule moment json) = (moment < 2 ^ 46) × (length json ≤ 4096)
 IsAsked (Unrule moment group id) = (moment < 2 ^ 46) × (is_name group ≡ true) × (is_name id ≡ true)
 IsAsked (Check moment region) = (moment < 2 ^ 46) × IsId region
 IsAsked (Patrol moment workers) = (moment < 2 ^ 46) × (0 < workers) × (workers ≤ 16)
+IsAsked (Schedule moment) = moment < 2 ^ 46
+IsAsked (Ctl moment words) = moment < 2 ^ 46
 IsAsked (Term term moment) = ⊥
 IsAsked Retire = ⊥

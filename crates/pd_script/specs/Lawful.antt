@@ -6,7 +6,7 @@ use Rattle.pd_types.specs.declared.oracle.Actor.{Actor}
 use Rattle.pd_script.specs.Formed.{IsAsked}
 use Rattle.pd_script.specs.Places.{least, most}
 use Rattle.pd_script.specs.Says.{named_client, named_driver, says}
-use Rattle.pd_script.specs.Scripts.{is_lead, store_in}
+use Rattle.pd_script.specs.Scripts.{is_lead, is_report, store_in}
 use Rattle.pd_script.specs.Table.{is_misplaced}
 use Rattle.pd_script.specs.declared.act.Act.{Act}
 use Rattle.pd_script.specs.declared.act.Line.{Line}
@@ -98,4 +98,5 @@ pub record IsLawfulScript (mode : Mode) (script : Script) : Type 0 where
   pub most_clients : IsGreatest (flat_map (λ line. clients_named line.act) script.lines) script.clients
   pub events : length script.lines ≤ 65536
   pub speakers : AreAtMost 256 (flat_map (λ line. speaking line.act) script.lines)
+  pub reports : count_by (λ line. is_report line.act) script.lines ≤ 1024
   pub leads : count_by (λ line. is_lead line.act) script.lines ≤ 1024

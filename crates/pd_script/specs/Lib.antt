@@ -1,5 +1,6 @@
 pub mod Asks
 pub mod CheckLines
+pub mod CtlLines
 pub mod Formed
 pub mod Forms
 pub mod Grammar

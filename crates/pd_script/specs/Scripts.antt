@@ -6,17 +6,17 @@ use Rattle.std.specs.Ordering.{nat_cmp}
 use Rattle.pd_types.specs.declared.oracle.Actor.{Actor}
 use Rattle.pd_types.specs.declared.oracle.Actor.TheVariants.{Driver as ByDriver, Client as ByClient, Store as ByStore}
 use Rattle.pd_types.specs.declared.request.Request.{Request}
-use Rattle.pd_types.specs.declared.request.Request.TheVariants.{Hello, Alive, Beat, Rule, Unrule, Check, Patrol, Term as BeginTerm, Retire}
+use Rattle.pd_types.specs.declared.request.Request.TheVariants.{Hello, Alive, Beat, Rule, Unrule, Check, Patrol, Schedule, Ctl, Term as BeginTerm, Retire}
 use Rattle.pd_script.specs.Grammar.{AtFault, events_of}
 use Rattle.pd_script.specs.Table.{row}
 use Rattle.pd_script.specs.declared.act.Act.{Act}
 use Rattle.pd_script.specs.declared.act.Act.TheVariants.{Cell as CellAct, Lead as LeadAct, Tick as TickAct, Resign as ResignAct, Take as TakeAct, Tell as TellAct, Hear as HearAct, Read as ReadAct, Campaign as CampaignAct, Save as SaveAct, Raise as RaiseAct, Publish as PublishAct, Probe as ProbeAct, Look as LookAct, Arm as ArmAct, Draw as DrawAct, Ask as AskAct, Pop as PopAct}
 use Rattle.pd_script.specs.declared.act.Line.{Line}
 use Rattle.pd_script.specs.declared.limits.Broken.{Broken}
-use Rattle.pd_script.specs.declared.limits.TheConstants.{MAX_CLIENTS, MAX_DRIVERS, MAX_EVENTS, MAX_LEADS, MAX_STORES}
+use Rattle.pd_script.specs.declared.limits.TheConstants.{MAX_CLIENTS, MAX_DRIVERS, MAX_EVENTS, MAX_LEADS, MAX_REPORTS, MAX_STORES}
 use Rattle.pd_script.specs.declared.place.Place.{Place}
 use Rattle.pd_script.specs.declared.place.Place.TheVariants.{Driver, Client, Id}
-use Rattle.pd_script.specs.declared.refusal.Limited.TheVariants.{Events, Drivers, Clients, Stores, Leads}
+use Rattle.pd_script.specs.declared.refusal.Limited.TheVariants.{Events, Drivers, Clients, Stores, Reports, Leads}
 use Rattle.pd_script.specs.declared.refusal.ScriptRefusal.{ScriptRefusal}
 use Rattle.pd_script.specs.declared.refusal.ScriptRefusal.TheVariants.{Fault, Limit}
 use Rattle.pd_script.specs.declared.script.Mode.{Mode}
@@ -88,6 +88,8 @@ asker driver (Rule moment json) = ByDriver driver
 asker driver (Unrule moment group id) = ByDriver driver
 asker driver (Check moment region) = ByDriver driver
 asker driver (Patrol moment workers) = ByDriver driver
+asker driver (Schedule moment) = ByDriver driver
+asker driver (Ctl moment words) = ByDriver driver
 asker driver (BeginTerm term moment) = ByDriver driver
 asker driver Retire = ByDriver driver
 
@@ -145,6 +147,29 @@ stores_from known (e ∷ es) = stores_from (with_stores known (store_of e.event)
 abbrev pub stores_in : List Numbered → ℕ
 stores_in events = length (stores_from [] events)
 
+-- the request asks for a report: `ctl`, and `patrol`, which tells of all regions
+abbrev pub asks_report : Request → Bool
+asks_report (Patrol moment workers) = true
+asks_report (Ctl moment words) = true
+asks_report (Hello store moment address labels) = false
+asks_report (Alive store moment) = false
+asks_report (Beat store moment beat) = false
+asks_report (Rule moment json) = false
+asks_report (Unrule moment group id) = false
+asks_report (Check moment region) = false
+asks_report (Schedule moment) = false
+asks_report (BeginTerm term moment) = false
+asks_report Retire = false
+
+-- the act is such a request
+abbrev pub is_report : Act → Bool
+is_report (AskAct driver request) = asks_report request
+is_report _ = false
+
+-- how many lines ask for a report
+abbrev pub reports_in : List Numbered → ℕ
+reports_in events = count_by (λ e. is_report (act_of e.event)) events
+
 -- the act begins a lead or ends one: `lead`, or `publish`, the last of its single steps
 abbrev pub is_lead : Act → Bool
 is_lead (LeadAct driver now) = true
@@ -162,6 +187,7 @@ broken_by events =
     else if nat_lt MAX_DRIVERS (greatest driver_of events) then Some (record { what = Drivers; count = greatest driver_of events })
     else if nat_lt MAX_CLIENTS (greatest client_of events) then Some (record { what = Clients; count = greatest client_of events })
     else if nat_lt MAX_STORES (stores_in events) then Some (record { what = Stores; count = stores_in events })
+    else if nat_lt MAX_REPORTS (reports_in events) then Some (record { what = Reports; count = reports_in events })
     else if nat_lt MAX_LEADS (leads_in events) then Some (record { what = Leads; count = leads_in events })
     else None
 

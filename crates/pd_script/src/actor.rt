@@ -1,6 +1,6 @@
 // Who acts in a line.
 ghost use Rattle.std.specs.Prelude.{◌≡◌, ◌≤◌, ℕ, option_to_list};
-ghost use Rattle.pd_script.specs.Scripts.{acting, actor_by, asker, greatest_in, if_client, if_driver, store_in};
+ghost use Rattle.pd_script.specs.Scripts.{acting, actor_by, asker, asks_report, greatest_in, if_client, if_driver, store_in};
 
 use crate::place::Place;
 use crate::verb::{Numbers, Places};
@@ -15,6 +15,7 @@ pub fn asker(driver: u8, request: &Request) -> Actor
             { Actor::Store(*store) }
         Request::Rule { .. } | Request::Unrule { .. } => Actor::Driver(driver),
         Request::Check { .. } | Request::Patrol { .. } => Actor::Driver(driver),
+        Request::Schedule { .. } | Request::Ctl { .. } => Actor::Driver(driver),
         Request::Term { .. } | Request::Retire => Actor::Driver(driver),
     }
 }
@@ -28,8 +29,16 @@ pub fn speaker(request: &Request) -> Option<u64>
             { Some(*store) }
         Request::Rule { .. } | Request::Unrule { .. } => None,
         Request::Check { .. } | Request::Patrol { .. } => None,
+        Request::Schedule { .. } | Request::Ctl { .. } => None,
         Request::Term { .. } | Request::Retire => None,
     }
+}
+
+/// Whether a request asks for a report: `ctl`, and `patrol`, which tells of all regions.
+pub fn asks_report(request: &Request) -> bool
+    ensures value { result ≡ asks_report request.now }
+{
+    matches!(request, Request::Patrol { .. } | Request::Ctl { .. })
 }
 
 // Who acts in a place.

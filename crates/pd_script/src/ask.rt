@@ -6,6 +6,7 @@ ghost use Rattle.pd_script.specs.Words.{words};
 
 use crate::Reason;
 use crate::checks::{check, patrol};
+use crate::ctl::{ctl, schedule};
 use crate::form::{address, key_form, labels};
 use crate::items::{downs, peers, pending};
 use crate::line::word;
@@ -271,5 +272,7 @@ pub fn read_asked(alloc: Global, verb: RequestVerb, rest: &[u8]) -> Result<Asked
         RequestVerb::Unrule => unrule(alloc, rest),
         RequestVerb::Check => Ok(check(rest)?),
         RequestVerb::Patrol => Ok(patrol(rest)?),
+        RequestVerb::Schedule => Ok(schedule(rest)?),
+        RequestVerb::Ctl => ctl(alloc, rest),
     }
 }

@@ -1,9 +1,9 @@
 // Lines that aren't passed over, and what they name.
 ghost use Rattle.std.specs.Prelude.{◌≡◌, ◌≤◌, option_to_list};
-ghost use Rattle.pd_script.specs.Scripts.{act_of, acting, actor_by, actor_of, client_of, driver_of, greatest_in, if_client, if_driver, is_lead, line_of, store_by, store_of};
+ghost use Rattle.pd_script.specs.Scripts.{act_of, acting, actor_by, actor_of, client_of, driver_of, greatest_in, if_client, if_driver, is_lead, is_report, line_of, store_by, store_of};
 
 use crate::act::step_act;
-use crate::actor::{asker, speaker, step_actor};
+use crate::actor::{asker, asks_report, speaker, step_actor};
 use crate::place::Place;
 use crate::verb::{Numbers, Places, Verb};
 use crate::{Act, Line};
@@ -128,6 +128,16 @@ impl Event {
         match self {
             Event::Step { verb, .. } => *verb == Verb::Lead || *verb == Verb::Publish,
             Event::Ask { .. } => false,
+        }
+    }
+
+    /// Whether its line asks for a report.
+    pub fn is_report(&self) -> bool
+        ensures value { result ≡ is_report (act_of self.now) }
+    {
+        match self {
+            Event::Step { .. } => false,
+            Event::Ask { request, .. } => asks_report(request),
         }
     }
 

@@ -5,6 +5,7 @@ mod act;
 mod actor;
 mod ask;
 mod checks;
+mod ctl;
 mod event;
 mod form;
 mod items;
@@ -28,6 +29,7 @@ pub use laws::{
     a_rest_keeps_its_words, each_place_has_its_range, stores_and_the_driver_ask,
     what_is_cut_is_the_whole,
 };
+pub use limits::MAX_DRIVERS;
 pub use reading::read_script;
 pub use refusal::{Limited, Reason, ScriptRefusal};
 pub use script::{Lines, Mode, Script};

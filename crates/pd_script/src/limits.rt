@@ -1,6 +1,6 @@
 // The limits of a script.
 ghost use Rattle.std.specs.Prelude.{◌≡◌, IfOk};
-ghost use Rattle.pd_script.specs.Scripts.{broken_by, client_of, driver_of, greatest, leads_in, stores_in};
+ghost use Rattle.pd_script.specs.Scripts.{broken_by, client_of, driver_of, greatest, leads_in, reports_in, stores_in};
 
 use crate::Limited;
 use crate::event::Numbered;
@@ -20,12 +20,15 @@ pub const MAX_CLIENTS: u64 = 64;
 /// How many stores speak at most.
 pub const MAX_STORES: u64 = 256;
 
+/// How many lines `ctl` and `patrol` a script has at most.
+pub const MAX_REPORTS: u64 = 1024;
+
 /// How many lines `lead` and `publish` a script has at most.
 pub const MAX_LEADS: u64 = 1024;
 
 const _: () = prove!(MAX_EVENTS == 65_536 && MAX_STORES == 256 && MAX_LEADS == 1_024);
 
-const _: () = prove!(MAX_DRIVERS == 7 && MAX_CLIENTS == 64);
+const _: () = prove!(MAX_DRIVERS == 7 && MAX_CLIENTS == 64 && MAX_REPORTS == 1_024);
 
 /// A limit that is broken, and what was counted.
 #[derive(Clone, Copy, Debug, PartialEq, Eq)]
@@ -69,6 +72,19 @@ pub fn stores(alloc: Global, events: &[Numbered]) -> Result<u64, NoMemory>
     Ok(stores.len() as u64)
 }
 
+/// How many of the events ask for a report.
+pub fn reports(events: &[Numbered]) -> u64
+    ensures value { result ≡ reports_in events.now }
+{
+    let mut count = 0;
+    for numbered in events {
+        if numbered.event.is_report() {
+            count += 1;
+        }
+    }
+    count
+}
+
 /// How many of the events begin a lead or end one.
 pub fn leads(events: &[Numbered]) -> u64
     ensures value { result ≡ leads_in events.now }
@@ -110,6 +126,13 @@ pub fn first_broken(alloc: Global, events: &[Numbered]) -> Result<Option<Broken>
     if count > MAX_STORES {
         return Ok(Some(Broken {
             what: Limited::Stores,
+            count,
+        }));
+    }
+    let count = reports(events);
+    if count > MAX_REPORTS {
+        return Ok(Some(Broken {
+            what: Limited::Reports,
             count,
         }));
     }

@@ -37,6 +37,8 @@ pub enum Limited {
     Drivers,
     Clients,
     Stores,
+    /// Lines `ctl` and `patrol`.
+    Reports,
     /// Lines `lead` and `publish`.
     Leads,
 }

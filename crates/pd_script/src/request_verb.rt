@@ -13,6 +13,8 @@ pub enum RequestVerb {
     Unrule,
     Check,
     Patrol,
+    Schedule,
+    Ctl,
 }
 
 impl RequestVerb {
@@ -28,6 +30,8 @@ impl RequestVerb {
             RequestVerb::Unrule => "unrule",
             RequestVerb::Check => "check",
             RequestVerb::Patrol => "patrol",
+            RequestVerb::Schedule => "schedule",
+            RequestVerb::Ctl => "ctl",
         }
     }
 }
@@ -56,6 +60,8 @@ pub fn request_verb_of(word: &[u8]) -> Option<RequestVerb>
         RequestVerb::Unrule,
         RequestVerb::Check,
         RequestVerb::Patrol,
+        RequestVerb::Schedule,
+        RequestVerb::Ctl,
     ];
     first_named_request(&verbs, word)
 }

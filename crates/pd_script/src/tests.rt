@@ -164,6 +164,26 @@ const REPLAY: &str = "\
 6 rule x 70368744177664 {}
 7 rule 1 70368744177664 {}
 6 rule 1 -1 {}
+0 schedule 1 1000
+0 schedule 7 70368744177663
+4 schedule
+4 schedule 1
+4 schedule x
+5 schedule 1 1000 x
+5 schedule x x x
+7 schedule 0 x
+6 schedule 1 x
+7 schedule 1 70368744177664
+0 ctl 1 1000 store
+0 ctl 7 70368744177663 no command at all
+0   ctl  1  1000   store   1  
+4 ctl
+4 ctl 1
+4 ctl 1 1000
+4 ctl x y
+7 ctl 0 x store
+6 ctl 1 x store
+7 ctl 1 70368744177664 store
 0 unrule 1 1000 pd default
 0 unrule 7 0 ! ~
 0 unrule 1 1000 gggggggggggggggggggggggggggggggggggggggggggggggggggggggggggggggg i
@@ -244,6 +264,8 @@ const RUN: &str = "\
 3 rule 1 1000 {}
 3 unrule 1
 3 unrule 1 1000 pd default
+3 schedule 1 1000
+3 ctl 1 1000 store
 3 check
 3 check 1 1000 7
 3 patrol 1 1000 1
@@ -459,6 +481,53 @@ fn a_driver_has_its_regions_checked(rt: HostRuntime) -> Result<(), Fail> {
             _ => assert!(rt; false, "another act"),
         }
     }
+    Ok(())
+}
+
+// The words of a command begin at the first of them and end with the last, and inner spaces stay.
+#[test]
+fn a_driver_schedules_and_is_commanded(rt: HostRuntime) -> Result<(), Fail> {
+    let text = b"schedule 3 9\nctl 3 10   store  1  \n";
+    let script = read_script(rt.alloc(), text, Mode::Replay)?;
+    assert_eq!(rt; (script.drivers, script.lines.len()), (3, 2));
+    for line in script.lines.as_slice() {
+        assert_eq!(rt; line.actor, Some(Actor::Driver(3)));
+        match &line.act {
+            Act::Ask {
+                driver: 3,
+                request: Request::Schedule { moment: 9 },
+            } => assert_eq!(rt; line.number, 1),
+            Act::Ask {
+                driver: 3,
+                request: Request::Ctl { moment: 10, words },
+            } => {
+                assert_eq!(rt; line.number, 2);
+                assert_eq!(rt; words.as_slice(), b"store  1".as_slice());
+            }
+            _ => assert!(rt; false, "another act"),
+        }
+    }
+    Ok(())
+}
+
+#[test]
+fn reports_are_tested_before_leads(rt: HostRuntime) -> Result<(), Fail> {
+    let alloc = rt.alloc();
+    let mut text = String::new(alloc);
+    for _ in 0..512 {
+        text.push_str("ctl 1 1 store\nschedule 1 1\npatrol 1 1 1\nlead 1 1\n")?;
+    }
+    assert!(rt; text.len() <= 16_777_216);
+    assert!(rt; read_script(alloc, text.as_bytes(), Mode::Replay).is_ok());
+    for _ in 0..513 {
+        text.push_str("publish 1\n")?;
+    }
+    text.push_str("ctl 1 1 x\n")?;
+    let reports = ScriptRefusal::Limit {
+        what: Limited::Reports,
+        count: 1025,
+    };
+    expect(&rt, alloc, text.as_bytes(), reports);
     Ok(())
 }
 

@@ -15,6 +15,7 @@ use Rattle.pd_state.specs.declared.entry.Entry.{Entry}
 use Rattle.pd_state.specs.declared.reply.Reply.{Reply}
 use Rattle.pd_state.specs.Clusters.{ClusterValue, Died, Served}
 use Rattle.pd_state.specs.Legal.{IsLegal, IsLegalAfter}
+use Rattle.sched_api.specs.Benches.{Seats}
 use Rattle.pd_shared.specs.Kept.{IsKept, answers_in, number_of, tale_of}
 use Rattle.pd_shared.specs.Names.{StreamName, streams_of}
 use Rattle.pd_shared.specs.Outlets.{AreOutletsOf, ArePushed, IsServed, OutletValue, TookUp, sends_to, to_store}
@@ -64,8 +65,8 @@ outlets_stay streams driver after sends os ps is h took = subst (λ d. AreOutlet
 
 module _ (meta : TurnValue) (streams : List StreamName) (old new : ClusterValue) (seat seat' : SeatValue) (os ps : List OutletValue)
     (turn : seat'.turn ≡ seat.turn) (driver : seat'.driver ≡ seat.driver) (kept : IsKept meta streams old seat os) where
-  pub kept_more : (actor : Actor) (line : ℕ) (request : Request) (reply : Reply)
-      → (s : Served old new (record { said_old = seat.list; said_new = seat'.list; told_old = None; told_new = None }) actor line request reply)
+  pub kept_more : {one other : Seats} (actor : Actor) (line : ℕ) (request : Request) (reply : Reply)
+      → (s : Served old new (record { said_old = seat.list; said_new = seat'.list; told_old = None; told_new = None }) one other actor line request reply)
       → AllZip (TookUp s.entry.sends) os ps → IsKept meta streams new seat' ps
   kept_more actor line request reply s took = record {
     turn_is = turn ∙ kept.turn_is;

@@ -9,8 +9,11 @@ use Rattle.meta_store.specs.declared.record.MetaAnswer.{MetaAnswer}
 use Rattle.meta_store.specs.Seats.{SeatValue}
 use Rattle.pd_state.specs.declared.entry.Entry.{Entry}
 use Rattle.pd_state.specs.declared.reply.Reply.{Reply}
+use Rattle.pd_state.specs.BenchHeard.{OverBench}
 use Rattle.pd_state.specs.Clusters.{ClusterValue, Replays}
 use Rattle.pd_state.specs.Legal.{IsLegal}
+use Rattle.pd_state.specs.State.{part_after}
+use Rattle.sched_api.specs.Benches.{Seats}
 use Rattle.pd_shared.specs.Names.{StreamName}
 use Rattle.pd_shared.specs.Outlets.{AreOutletsOf, IsServed, OutletValue}
 
@@ -53,8 +56,9 @@ number_of (Store store) = store
 abbrev pub tale_of : List Entry → List (ℕ × Entry)
 tale_of entries = map (λ (entry : Entry). (number_of entry.actor, entry)) entries
 
--- one entry was appended, of this actor, line and request, with this reply
-pub record Appended (old new : List Entry) (actor : Actor) (line : ℕ) (request : Request) (reply : Reply) : Type 0 where
+-- one entry was appended, of this actor, line and request, with this reply; it was made over a bench that was the one and is the other
+pub record Appended (old new : List Entry) (bench_old bench_new : Seats) (actor : Actor) (line : ℕ) (request : Request) (reply : Reply) : Type 0 where
   pub entry : Entry
   pub entry_is : IsEntryOf entry actor line request reply
   pub entries_are : new ≡ old ++ entry ∷ []
+  pub over : OverBench (part_after (reverse old)) entry bench_old bench_new

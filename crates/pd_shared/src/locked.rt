@@ -12,6 +12,7 @@ use meta_store::{MetaDoor, MetaSeat};
 use pd_state::{Cluster, Entry, Reply};
 use pd_turn::Tale;
 use pd_types::{Actor, NoMemory, Request, StepMsg};
+use sched_api::Seated;
 use std::alloc::Global;
 use std::marker::{Model, PhantomData};
 use std::sync::Wait;
@@ -70,23 +71,24 @@ fn last_sends(cluster: &Cluster) -> &[StepMsg]
     }
 }
 
-// Serves over the door of the seat.
-fn serve_at<R: Wait>(
+// Serves over the door of the seat, and the bench.
+fn serve_at<R: Wait, B: Seated>(
     rt: &R,
     cluster: &mut Cluster,
     seat: &mut MetaSeat,
     actor: Actor,
     line: u32,
     request: Request,
+    bench: &mut B,
 ) -> Result<Reply, NoMemory>
     requires driver { seat.old.driver ≡ cluster.old.driver }
-    ensures ok { IfOk result (λ reply. Served cluster.old cluster.new (record { said_old = seat.old.list; said_new = seat.new.list; told_old = None; told_new = None }) actor line request reply) }
+    ensures ok { IfOk result (λ reply. Served cluster.old cluster.new (record { said_old = seat.old.list; said_new = seat.new.list; told_old = None; told_new = None }) (B.seats bench.old) (B.seats bench.new) actor line request reply) }
     ensures err { OnErr result (Died cluster.old cluster.new) }
     ensures turn { seat.new.turn ≡ seat.old.turn }
     ensures driver { seat.new.driver ≡ seat.old.driver }
 {
     let mut door = MetaDoor::new(rt, seat);
-    cluster.serve(actor, line, request, &mut door)
+    cluster.serve(actor, line, request, &mut door, bench)
 }
 
 impl<N: ClusterName> Locked<N> {
@@ -107,15 +109,16 @@ impl<N: ClusterName> Locked<N> {
         }
     }
 
-    /// Serves a request for an actor, and then pushes what its entry sent.
-    pub fn serve<R: Wait>(
+    /// Serves a request for an actor over a bench of schedulers, and then pushes what its entry sent.
+    pub fn serve<R: Wait, B: Seated>(
         self,
         rt: &R,
         actor: Actor,
         line: u32,
         request: Request,
+        bench: &mut B,
     ) -> (Locked<N>, Result<Reply, NoMemory>)
-        ensures ok { IfOk result.1 (λ reply. Appended self.cluster.entries result.0.cluster.entries actor line request reply) }
+        ensures ok { IfOk result.1 (λ reply. Appended self.cluster.entries result.0.cluster.entries (B.seats bench.old) (B.seats bench.new) actor line request reply) }
         ensures err { OnErr result.1 (result.0.cluster.entries ≡ self.cluster.entries) }
     {
         let Locked {
@@ -125,7 +128,7 @@ impl<N: ClusterName> Locked<N> {
             dead: _,
             of,
         } = self;
-        match serve_at(rt, &mut cluster, &mut seat, actor, line, request) {
+        match serve_at(rt, &mut cluster, &mut seat, actor, line, request, bench) {
             Ok(reply) => {
                 push_all(rt, &mut givers, last_sends(&cluster));
                 let locked = Locked {

@@ -1,8 +1,10 @@
 // A cluster that actors share, each by its share.
-ghost use Rattle.std.specs.Prelude.{◌≡◌, ◌++◌, ◌∷◌, [], ℕ, All, map, None, false, IfOk, OnErr};
+ghost use Rattle.std.specs.Prelude.{◌≡◌, ◌++◌, ◌∷◌, [], ℕ, All, map, Option, None, false, IfOk, OnErr};
 ghost use Rattle.pd_turn.specs.Turns.{AreApart, new_ticket, ticket_value};
 ghost use Rattle.meta_store.specs.Seats.{new_seat};
 ghost use Rattle.pd_state.specs.declared.entry.Entry.{Entry};
+ghost use Rattle.pd_state.specs.declared.part.Part.{Part};
+ghost use Rattle.pd_state.specs.BenchHeard.{OverBench};
 ghost use Rattle.pd_shared.specs.Kept.{IsEntryOf, IsKept};
 ghost use Rattle.pd_shared.specs.Outlets.{AreOutletsOf, OutletValue};
 ghost use Rattle.pd_shared.specs.Shares.{AreSharesOf, Called, IsInJournal, IsOpen, IsOwn, actor_of, actors_of, new_share, share_by, ticket_by};
@@ -14,6 +16,7 @@ use meta_store::MetaSeat;
 use pd_state::Reply;
 use pd_turn::{Ticket, Turn};
 use pd_types::{Actor, Ids, NoMemory, Request};
+use sched_api::Seated;
 use std::alloc::Global;
 use std::marker::Model;
 use std::sync::Wait;
@@ -59,18 +62,20 @@ impl<N: ClusterName> Model for Share<N> {
 pub type Shares<N> = Vec<Share<N>>;
 
 impl<N: ClusterName> SharedCluster<N> {
-    /// Serves a request for the share's actor, over the seat of the cluster's driver at the metadata, and
-    /// pushes the steps that its entry sent, all under one turn of the lock, for which it waits. Want of
-    /// memory leaves the share's list, and ends the cluster: every later call answers it too.
-    pub fn call<R: Wait>(
+    /// Serves a request for the share's actor, over the seat of the cluster's driver at the metadata and
+    /// over the bench, which is the driver's, and pushes the steps that its entry sent, all under one turn
+    /// of the lock, for which it waits. Want of memory leaves the share's list, and ends the cluster: every
+    /// later call answers it too; what the bench did stays done.
+    pub fn call<R: Wait, B: Seated>(
         &self,
         rt: &R,
         share: &mut Share<N>,
         line: u32,
         request: Request,
+        bench: &mut B,
     ) -> Result<Reply, NoMemory>
         requires share { share.old.cluster ≡ self.now }
-        ensures ok { IfOk result (λ reply. Called share.old share.new line request reply) }
+        ensures ok { IfOk result (λ reply. Called share.old share.new (B.seats bench.old) (B.seats bench.new) line request reply) }
         ensures err { OnErr result (share.new ≡ share.old) }
     {
         call_by(
@@ -80,6 +85,7 @@ impl<N: ClusterName> SharedCluster<N> {
             share.driver,
             line,
             request,
+            bench,
         )
     }
 
@@ -158,23 +164,25 @@ fn actor_of(driver: u8, number: u64) -> Actor
 }
 
 // Calls by a ticket of the turn.
-fn call_by<N: ClusterName, R: Wait>(
+fn call_by<N: ClusterName, R: Wait, B: Seated>(
     rt: &R,
     turn: &Turn<Locked<N>>,
     ticket: &mut Ticket<Locked<N>>,
     driver: u8,
     line: u32,
     request: Request,
+    bench: &mut B,
 ) -> Result<Reply, NoMemory>
     requires turn { ticket.old.turn ≡ turn.now }
     requires none { ticket.old.taken ≡ None }
     ensures ok { IfOk result (λ reply. (entry : Entry) × IsEntryOf entry (actor_of driver ticket.old.number) line request reply
-        × (ticket.new ≡ ticket_value ticket.old.turn ticket.old.number (ticket.old.list ++ entry ∷ []) None)) }
+        × (ticket.new ≡ ticket_value ticket.old.turn ticket.old.number (ticket.old.list ++ entry ∷ []) None)
+        × (tables : Option Part) × OverBench tables entry (B.seats bench.old) (B.seats bench.new)) }
     ensures err { OnErr result (ticket.new ≡ ticket.old) }
 {
     let actor = actor_of(driver, ticket.number());
     let locked = turn.take(rt, ticket);
-    let (locked, answer) = locked.serve(rt, actor, line, request);
+    let (locked, answer) = locked.serve(rt, actor, line, request, bench);
     match answer {
         Ok(reply) => {
             turn.give(ticket, locked);

@@ -11,6 +11,7 @@ use pd_types::{
     Actor, Bytes, Downs, Epoch, Ids, Labels, NoMemory, Peer, Peers, Region, RegionBeat, Request,
     Role, Step, StepMsg, Text,
 };
+use sched_api::Bench;
 use std::alloc::Global;
 use std::marker::Brand;
 use std::process::Abort;
@@ -119,6 +120,7 @@ fn call_as<N: ClusterName, R: Wait>(
     store: &mut Share<N>,
     by_driver: bool,
     request: Request,
+    bench: &mut Bench,
 ) -> Result<Reply, NoMemory>
     requires driver { driver.old.cluster ≡ cluster.now }
     requires store { store.old.cluster ≡ cluster.now }
@@ -126,9 +128,9 @@ fn call_as<N: ClusterName, R: Wait>(
     ensures store { (store.new.cluster ≡ cluster.now) × (store.new.actor ≡ store.old.actor) }
 {
     if by_driver {
-        cluster.call(rt, driver, 3, request)
+        cluster.call(rt, driver, 3, request, bench)
     } else {
-        cluster.call(rt, store, 4, request)
+        cluster.call(rt, store, 4, request, bench)
     }
 }
 
@@ -164,8 +166,17 @@ fn play<N: ClusterName + Send + Sync, R: Wait + AllocGlobal>(
     let (cluster, mut driver, mut store) = open_both::<N>(alloc, seat, givers)?;
     crosses(&cluster, &driver);
     let mut last = String::new(alloc);
+    let mut bench = Bench::empty(alloc);
     for (by_driver, request) in calls {
-        let reply = call_as(rt, &cluster, &mut driver, &mut store, by_driver, request)?;
+        let reply = call_as(
+            rt,
+            &cluster,
+            &mut driver,
+            &mut store,
+            by_driver,
+            request,
+            &mut bench,
+        )?;
         last = format!(in alloc; "{reply}")?;
     }
     let closed = close_both(rt, cluster, driver, store)?;

@@ -19,6 +19,7 @@ use Rattle.meta_store.specs.Asked.{AreAsked}
 use Rattle.meta_store.specs.Cells.{cell_at, revision_in}
 use Rattle.meta_store.specs.Past.{is_accepted}
 use Rattle.meta_store.specs.Stores.{store_bytes, store_key}
+use Rattle.sched_api.specs.declared.scheduler.Said.{Said}
 use Rattle.pd_state.specs.declared.part.Part.{Part}
 use Rattle.pd_state.specs.declared.reply.Reply.{Reply}
 use Rattle.pd_state.specs.declared.reply.Reply.TheVariants as replies
@@ -102,36 +103,40 @@ unrule_few part group id =
 abbrev pub AsksFew : Request → Type 0
 AsksFew (ask.Check moment region) = ⊥
 AsksFew (ask.Patrol moment workers) = ⊥
+AsksFew (ask.Schedule moment) = ⊥
+AsksFew (ask.Ctl moment words) = ⊥
 AsksFew _ = Unit {0}
 
-pub two_calls : (part : Option Part) (request : Request) (answers : List MetaAnswer) → AsksFew request → AreAsked (next_call part request) [] answers → length answers ≤ 2
-two_calls part (ask.Term term moment) answers few_asked asked = omega (arith, few_calls (calls.Lead term ∷ []) answers (asked_calls (calls.Lead term ∷ []) answers asked))
-two_calls (Some part) (ask.Hello store moment address labels) answers few_asked asked =
+pub two_calls : (part : Option Part) (request : Request) (said : List Said) (answers : List MetaAnswer) → AsksFew request → AreAsked (next_call part request said) [] answers → length answers ≤ 2
+two_calls part (ask.Term term moment) said answers few_asked asked = omega (arith, few_calls (calls.Lead term ∷ []) answers (asked_calls (calls.Lead term ∷ []) answers asked))
+two_calls (Some part) (ask.Hello store moment address labels) said answers few_asked asked =
     let few = few_calls (hello_calls part store address labels) answers (asked_calls (hello_calls part store address labels) answers asked) in
     let one = unless_few (hello_refusal (state_at store part.stores) (length part.stores)) (put_call part (store_key store) (store_bytes (greeted_record part store address labels))) in
     omega (arith, few, one)
-two_calls None (ask.Hello store moment address labels) answers few_asked asked = omega (arith, ap length (no_calls answers asked))
-two_calls None (ask.Alive store moment) answers few_asked asked = omega (arith, ap length (no_calls answers asked))
-two_calls (Some part) (ask.Alive store moment) answers few_asked asked = omega (arith, ap length (no_calls answers asked))
-two_calls None (ask.Beat store moment beat) answers few_asked asked = omega (arith, ap length (no_calls answers asked))
-two_calls (Some part) (ask.Beat store moment beat) answers few_asked asked = omega (arith, ap length (no_calls answers asked))
-two_calls None (ask.Rule moment json) answers few_asked asked = omega (arith, ap length (no_calls answers asked))
-two_calls None (ask.Unrule moment group id) answers few_asked asked = omega (arith, ap length (no_calls answers asked))
-two_calls (Some part) (ask.Rule moment json) answers few_asked asked =
+two_calls None (ask.Hello store moment address labels) said answers few_asked asked = omega (arith, ap length (no_calls answers asked))
+two_calls None (ask.Alive store moment) said answers few_asked asked = omega (arith, ap length (no_calls answers asked))
+two_calls (Some part) (ask.Alive store moment) said answers few_asked asked = omega (arith, ap length (no_calls answers asked))
+two_calls None (ask.Beat store moment beat) said answers few_asked asked = omega (arith, ap length (no_calls answers asked))
+two_calls (Some part) (ask.Beat store moment beat) said answers few_asked asked = omega (arith, ap length (no_calls answers asked))
+two_calls None (ask.Rule moment json) said answers few_asked asked = omega (arith, ap length (no_calls answers asked))
+two_calls None (ask.Unrule moment group id) said answers few_asked asked = omega (arith, ap length (no_calls answers asked))
+two_calls (Some part) (ask.Rule moment json) said answers few_asked asked =
     let few = few_calls (rule_calls part (rule_told json)) answers (asked_calls (rule_calls part (rule_told json)) answers asked) in
     let two = rule_few part (rule_told json) in
     omega (arith, few, two)
-two_calls (Some part) (ask.Unrule moment group id) answers few_asked asked =
+two_calls (Some part) (ask.Unrule moment group id) said answers few_asked asked =
     let few = few_calls (unrule_calls part group id) answers (asked_calls (unrule_calls part group id) answers asked) in
     let one = unrule_few part group id in
     omega (arith, few, one)
-two_calls part (ask.Check moment region) answers few_asked asked = absurd few_asked
-two_calls part (ask.Patrol moment workers) answers few_asked asked = absurd few_asked
-two_calls None ask.Retire answers few_asked asked = omega (arith, ap length (no_calls answers asked))
-two_calls (Some part) ask.Retire answers few_asked asked = omega (arith, ap length (no_calls answers asked))
+two_calls part (ask.Check moment region) said answers few_asked asked = absurd few_asked
+two_calls part (ask.Patrol moment workers) said answers few_asked asked = absurd few_asked
+two_calls part (ask.Schedule moment) said answers few_asked asked = absurd few_asked
+two_calls part (ask.Ctl moment words) said answers few_asked asked = absurd few_asked
+two_calls None ask.Retire said answers few_asked asked = omega (arith, ap length (no_calls answers asked))
+two_calls (Some part) ask.Retire said answers few_asked asked = omega (arith, ap length (no_calls answers asked))
 
 -- the calls of each request
-pub term_calls : (part : Option Part) (term moment : ℕ) (answers : List MetaAnswer) → AreAsked (next_call part (ask.Term term moment)) [] answers → AreCalls (calls.Lead term ∷ []) answers
+pub term_calls : (part : Option Part) (term moment : ℕ) (answers : List MetaAnswer) → AreAsked (next_call part (ask.Term term moment) []) [] answers → AreCalls (calls.Lead term ∷ []) answers
 term_calls part term moment answers asked = asked_calls (calls.Lead term ∷ []) answers asked
 
 room : (known : ℕ) → known < 256 → hello_refusal None known ≡ None
@@ -140,7 +145,7 @@ room known few = ap (λ (t : Bool). cond t (Some replies.Limit) None) (not_full 
     not_full : (known : ℕ) → known < 256 → nat_le MOST_STORES known ≡ false
     not_full known few = grind arith
 
-pub new_calls : (part : Part) (store moment : ℕ) (address : List ℕ) (labels : List Label) (answers : List MetaAnswer) → AreAsked (next_call (Some part) (ask.Hello store moment address labels)) [] answers
+pub new_calls : (part : Part) (store moment : ℕ) (address : List ℕ) (labels : List Label) (answers : List MetaAnswer) → AreAsked (next_call (Some part) (ask.Hello store moment address labels) []) [] answers
     → entry_at store part.stores ≡ None → length part.stores < 256
     → AreCalls (calls.Put part.term (store_key store) (revision_in (cell_at (store_key store) part.known)) (store_bytes (record { id = store; address = address; labels = labels; state = states.Up })) ∷ []) answers
 new_calls part store moment address labels answers asked none few =
@@ -155,7 +160,7 @@ free_state states.Tombstone known other = absurd (other refl)
 free_state states.Up known other = refl
 free_state states.Offline known other = refl
 
-pub known_calls : (part : Part) (store moment : ℕ) (address : List ℕ) (labels : List Label) (known : StoreEntry) (answers : List MetaAnswer) → AreAsked (next_call (Some part) (ask.Hello store moment address labels)) [] answers
+pub known_calls : (part : Part) (store moment : ℕ) (address : List ℕ) (labels : List Label) (known : StoreEntry) (answers : List MetaAnswer) → AreAsked (next_call (Some part) (ask.Hello store moment address labels) []) [] answers
     → entry_at store part.stores ≡ Some known → known.store.state ≢ states.Tombstone
     → AreCalls (calls.Put part.term (store_key store) (revision_in (cell_at (store_key store) part.known)) (store_bytes (record { id = store; address = address; labels = labels; state = known.store.state })) ∷ []) answers
 known_calls part store moment address labels known answers asked there other =
@@ -170,19 +175,19 @@ pub none_left : (answers : List MetaAnswer) → AreCalls [] answers → answers 
 none_left [] h = refl
 none_left (a ∷ answers) h = h
 
-pub refused_calls : (part : Part) (store moment : ℕ) (address : List ℕ) (labels : List Label) (reply : Reply) (answers : List MetaAnswer) → AreAsked (next_call (Some part) (ask.Hello store moment address labels)) [] answers
+pub refused_calls : (part : Part) (store moment : ℕ) (address : List ℕ) (labels : List Label) (reply : Reply) (answers : List MetaAnswer) → AreAsked (next_call (Some part) (ask.Hello store moment address labels) []) [] answers
     → hello_refusal (state_at store part.stores) (length part.stores) ≡ Some reply → answers ≡ []
 refused_calls part store moment address labels reply answers asked is =
     none_left answers (asked_calls [] answers (subst (λ (o : Option Reply). AreAsked (in_turn (unless o (put_call part (store_key store) (store_bytes (greeted_record part store address labels)) ∷ []))) [] answers) is asked))
 
-pub alive_calls : (part : Option Part) (store moment : ℕ) (answers : List MetaAnswer) → AreAsked (next_call part (ask.Alive store moment)) [] answers → answers ≡ []
+pub alive_calls : (part : Option Part) (store moment : ℕ) (answers : List MetaAnswer) → AreAsked (next_call part (ask.Alive store moment) []) [] answers → answers ≡ []
 alive_calls None store moment answers asked = no_calls answers asked
 alive_calls (Some part) store moment answers asked = no_calls answers asked
 
-pub retire_calls : (part : Option Part) (answers : List MetaAnswer) → AreAsked (next_call part ask.Retire) [] answers → answers ≡ []
+pub retire_calls : (part : Option Part) (answers : List MetaAnswer) → AreAsked (next_call part ask.Retire []) [] answers → answers ≡ []
 retire_calls None answers asked = no_calls answers asked
 retire_calls (Some part) answers asked = no_calls answers asked
 
-pub beat_calls : (part : Option Part) (store moment : ℕ) (beat : RegionBeat) (answers : List MetaAnswer) → AreAsked (next_call part (ask.Beat store moment beat)) [] answers → answers ≡ []
+pub beat_calls : (part : Option Part) (store moment : ℕ) (beat : RegionBeat) (answers : List MetaAnswer) → AreAsked (next_call part (ask.Beat store moment beat) []) [] answers → answers ≡ []
 beat_calls None store moment beat answers asked = no_calls answers asked
 beat_calls (Some part) store moment beat answers asked = no_calls answers asked

@@ -92,7 +92,7 @@ module _ (asking : Asking Deed) (old new : Part) (moment driver : ℕ) (d : Done
   pub stores_is : new.stores ≡ (deed_of asking old moment d.heard.answers).stores
   stores_is = sym (ap (λ (x : Deed). x.stores) deed_is)
 
-  planning_is : planning_of new ≡ (deed_of asking old moment d.heard.answers).planning
+  pub planning_is : planning_of new ≡ (deed_of asking old moment d.heard.answers).planning
   planning_is = sym (ap (λ (x : Deed). x.planning) deed_is)
 
   pub asked_is : AreAsked (λ before. wanted (asking (hearing old.known before))) [] d.heard.answers
@@ -104,7 +104,7 @@ module _ (asking : Asking Deed) (old new : Part) (moment driver : ℕ) (d : Done
   pub told_is : told_new ≡ told_all told_old driver d.heard.answers
   told_is = t.told ∙ ap (told_all told_old driver) (sym t.answers)
 
-  known_is : new.known ≡ known_after d.heard.answers old.known
+  pub known_is : new.known ≡ known_after d.heard.answers old.known
   known_is = t.known ∙ ap (λ (l : List MetaAnswer). known_after l old.known) (sym t.answers)
 
 -- the tables after a check

@@ -1,6 +1,6 @@
 -- How many calls a request makes at most.
-use Rattle.std.proofs.Common.{refl, ◌≡◌, ℕ, ◌+◌, ◌≤◌, ◌<◌, Bool, true, false, cond, List, [], ◌∷◌, ◌++◌, length, length-append, map, Option, Some, None, arith}
-use Rattle.std.specs.Prelude.{Result, Ok, Err, filter, filter_map}
+use Rattle.std.proofs.Common.{refl, ◌≡◌, ℕ, ◌+◌, ◌≤◌, ◌<◌, Bool, true, false, cond, nat_eq, subst, List, [], ◌∷◌, ◌++◌, length, length-append, map, Option, Some, None, arith}
+use Rattle.std.specs.Prelude.{Result, Ok, Err, codes, filter, filter_map}
 use Rattle.std.specs.Option.{option_map_or}
 use Rattle.pd_types.specs.declared.region.Peer.{Peer}
 use Rattle.pd_types.specs.declared.region.RegionBeat.{RegionBeat}
@@ -14,7 +14,7 @@ use Rattle.meta_store.specs.declared.record.MetaAnswer.{MetaAnswer}
 use Rattle.meta_store.specs.declared.record.MetaCall.{MetaCall}
 use Rattle.meta_store.specs.declared.record.MetaCall.TheVariants as calls
 use Rattle.meta_store.specs.Past.{is_accepted}
-use Rattle.store_table.specs.Entries.{state_at}
+use Rattle.store_table.specs.Entries.{entry_at, state_at}
 use Rattle.meta_store.specs.declared.record.MetaVerdict.{MetaVerdict}
 use Rattle.meta_store.specs.Asked.{AreAsked}
 use Rattle.meta_store.specs.Stores.{store_bytes, store_key}
@@ -26,6 +26,21 @@ use Rattle.op_step.specs.Peers.{has_id}
 use Rattle.rule_checker.specs.Told.{Told, Fits, Plans, Splits, Stuck}
 use Rattle.pd_state.specs.Adding.{Around, Drawn, Planning, Work, add_by, add_op, around_at, asks_id, draw, draw_saved, drawn, enter, entered, entered_with, free_id, left_out, pass_over, planning_of, saved_by}
 use Rattle.pd_state.specs.Asking.{Asking, Hearing, Point, and_then, answered, ask as ask_one, done, ended, go_on, hearing, wanted, waits, write}
+use Rattle.pd_types.specs.declared.proposal.Proposal.{Proposal}
+use Rattle.sched_api.specs.declared.scheduler.Said.{Said}
+use Rattle.store_limit.specs.declared.limits.LimitKind.{LimitKind}
+use Rattle.pd_ctl.specs.declared.command.Command.{Command}
+use Rattle.pd_ctl.specs.declared.command.Command.TheVariants as commands
+use Rattle.pd_ctl.specs.declared.fault.CtlFault.{CtlFault}
+use Rattle.pd_state.specs.Reports.{command_told}
+use Rattle.pd_state.specs.Scheduling.{heed, proposed, schedule, schedule_of, scheduler}
+use Rattle.pd_state.specs.declared.wishing.Asker.{Asker}
+use Rattle.op_step.specs.Wishes.{Plan, plan_of}
+use Rattle.op_step.specs.declared.wishes.Wish.{Wish}
+use Rattle.op_control.specs.Table.{active_at}
+use Rattle.op_control.specs.declared.operator.Operator.{Operator}
+use Rattle.pd_state.specs.Ctl.{add_by_hand, added_by_hand, admin, command_done, ctl_of, delete_by, delete_found, deleted_by, deletion, faulted, limit_found, rated, remove_found, removed, words_done}
+use Rattle.pd_state.specs.Wishing.{op_of, planned_or, region_of, steps_in, try_wished, wish_of, wished, wished_by}
 use Rattle.pd_state.specs.Calls.{greeted_record, hello_calls, in_turn, most_calls, most_draws, next_call, put_call, rule_calls, unrule_calls}
 use Rattle.pd_state.specs.Replies.{hello_refusal}
 use Rattle.pd_state.specs.StoredRules.{rule_told}
@@ -35,6 +50,7 @@ use Rattle.pd_state.specs.declared.adding.Adding.{Adding}
 use Rattle.pd_state.specs.declared.adding.Adding.TheVariants as adding
 use Rattle.pd_state.specs.declared.part.Part.{Part}
 use Rattle.pd_state.specs.declared.patrol.Planned.{Planned}
+use Rattle.pd_state.specs.declared.reply.Reply.{Reply}
 use Rattle.pd_state.specs.declared.reply.Reply.TheVariants as replies
 use Rattle.pd_state.proofs.CallLemmas.{rule_few, two_calls, unless_few, unrule_few}
 
@@ -131,6 +147,80 @@ held_few : (around : Around) (planning : Planning) (held : Option RegionBeat) �
 held_few around planning None = takes_done Deed 0 (idle around planning replies.NoRegion)
 held_few around planning (Some beat) = told_few around beat planning (told_in around beat)
 
+-- a wish
+draws_by : (held : List RegionBeat) (region : ℕ) (o : Option RegionBeat) → region_in region held ≡ o → option_map_or (λ (beat : RegionBeat). length beat.region.peers + 1) o 0 ≤ most_draws held
+draws_by held region None is = omega arith
+draws_by [] region (Some beat) is = absurd cc
+draws_by (one ∷ held) region (Some beat) is = by (nat_eq one.region.id region) is (draws_by held region (Some beat))
+  where
+    by : (t : Bool) → cond t (Some one) (region_in region held) ≡ Some beat → (region_in region held ≡ Some beat → length beat.region.peers + 1 ≤ most_draws held) → length beat.region.peers + 1 ≤ most_draws (one ∷ held)
+    by true h rest = let same : one ≡ beat = cc in subst (λ (b : RegionBeat). length b.region.peers + 1 ≤ most_draws (one ∷ held)) same (omega arith)
+    by false h rest = let low = rest h in omega (arith, low)
+
+abbrev draws_in : Result Planned Adding → ℕ
+draws_in (Ok planned) = length planned.beat.region.peers + 1
+draws_in (Err why) = 0
+
+built_few : (beat : RegionBeat) (plan : Plan) → draws_in (planned_or beat plan) ≤ length beat.region.peers + 1
+built_few beat (Ok steps) = omega arith
+built_few beat (Err fault) = omega arith
+
+wished_few : (around : Around) (wish : Wish) (o : Option RegionBeat) → draws_in (wished_by o around wish) ≤ option_map_or (λ (beat : RegionBeat). length beat.region.peers + 1) o 0
+wished_few around wish None = omega arith
+wished_few around wish (Some beat) = built_few beat (plan_of wish beat around.stores around.now)
+
+try_few : (around : Around) (asker : Asker) (planning : Planning) (found : Result Planned Adding) → Takes (draws_in found) (try_wished around asker planning found)
+try_few around asker planning (Ok planned) = add_few around (op_of asker planned) planned.beat planning
+try_few around asker planning (Err why) = takes_done Work 0 (left_out planning why)
+
+wish_few : (around : Around) (asker : Asker) (planning : Planning) (region : ℕ) (wish : Wish) → Takes (most_draws around.held) (try_wished around asker planning (wished around region wish))
+wish_few around asker planning region wish =
+    let one = wished_few around wish (region_in region around.held) in
+    let two = draws_by around.held region (region_in region around.held) refl in
+    takes_more Work (draws_in (wished around region wish)) (most_draws around.held) (try_wished around asker planning (wished around region wish)) (omega (arith, one, two)) (try_few around asker planning (wished around region wish))
+
+-- a scheduler's turn
+answer_few : (around : Around) (planning : Planning) (name : List ℕ) (proposal : Option Proposal) → Takes (most_draws around.held) (heed around planning name proposal)
+answer_few around planning name None = takes_done Deed (most_draws around.held) (idle around planning (replies.Silent name))
+answer_few around planning name (Some proposal) =
+    takes_last Work Deed (most_draws around.held) (try_wished around (scheduler name) planning (wished around (region_of proposal) (wish_of proposal))) (λ w. proposed around name proposal w)
+    (wish_few around (scheduler name) planning (region_of proposal) (wish_of proposal))
+
+schedule_few : (around : Around) (planning : Planning) (said : List Said) → Takes (most_draws around.held) (schedule around planning said)
+schedule_few around planning [] = takes_done Deed (most_draws around.held) (idle around planning replies.NoScheduler)
+schedule_few around planning (one ∷ more) = answer_few around planning one.name one.proposal
+
+-- a command
+by_deletion : (r : Result StoreRec Reply) (around : Around) (planning : Planning) → Takes 1 (delete_by r around planning)
+by_deletion (Ok rec) around planning = takes_last MetaVerdict Deed 1 (write around.term (store_key rec.id) (store_bytes rec)) (λ verdict. deleted_by around planning rec.id verdict) (takes_write around.term (store_key rec.id) (store_bytes rec))
+by_deletion (Err reply) around planning = takes_done Deed 1 (idle around planning reply)
+
+delete_few : (o : Option StoreEntry) (around : Around) (planning : Planning) → Takes 1 (delete_found o around planning)
+delete_few o around planning = by_deletion (deletion o) around planning
+
+limit_few : (o : Option StoreEntry) (around : Around) (planning : Planning) (id rate : ℕ) (kind : LimitKind) → Takes 0 (limit_found o around planning id rate kind)
+limit_few None around planning id rate kind = takes_done Deed 0 (faulted around planning (codes "unknown-store"))
+limit_few (Some entry) around planning id rate kind = takes_done Deed 0 (rated around planning id rate kind)
+
+remove_few : (o : Option Operator) (around : Around) (planning : Planning) (region : ℕ) → Takes 0 (remove_found o around planning region)
+remove_few None around planning region = takes_done Deed 0 (faulted around planning (codes "absent"))
+remove_few (Some op) around planning region = takes_done Deed 0 (removed around planning region)
+
+command_few : (around : Around) (planning : Planning) (command : Command) → Takes (most_draws around.held + 1) (command_done around planning command)
+command_few around planning (commands.StoreDelete id) = takes_more Deed 1 (most_draws around.held + 1) (delete_found (entry_at id around.stores) around planning) (omega arith) (delete_few (entry_at id around.stores) around planning)
+command_few around planning (commands.StoreLimit id rate kind) =
+    takes_more Deed 0 (most_draws around.held + 1) (limit_found (entry_at id around.stores) around planning id rate kind) (omega arith) (limit_few (entry_at id around.stores) around planning id rate kind)
+command_few around planning (commands.OperatorAdd region wish) =
+    takes_more Deed (most_draws around.held) (most_draws around.held + 1) (add_by_hand around planning region wish) (omega arith)
+    (takes_last Work Deed (most_draws around.held) (try_wished around admin planning (wished around region wish)) (λ w. added_by_hand around (steps_in (wished around region wish)) w) (wish_few around admin planning region wish))
+command_few around planning (commands.OperatorRemove region) =
+    takes_more Deed 0 (most_draws around.held + 1) (remove_found (active_at planning.operators region) around planning region) (omega arith) (remove_few (active_at planning.operators region) around planning region)
+command_few around planning command = takes_done Deed (most_draws around.held + 1) (idle around planning (replies.Report []))
+
+words_few : (around : Around) (planning : Planning) (told : Result Command CtlFault) → Takes (most_draws around.held + 1) (words_done around planning told)
+words_few around planning (Ok command) = command_few around planning command
+words_few around planning (Err fault) = takes_done Deed (most_draws around.held + 1) (idle around planning (replies.Report []))
+
 -- a patrol
 abbrev draws_for : List Planned → ℕ
 draws_for [] = 0
@@ -225,28 +315,34 @@ takes_few A n asking known answers t asked =
     let all = asked_few (λ before. wanted (asking (hearing known before))) n (λ before call is. waits_low A n (hearing known before) (asking (hearing known before)) call (t (hearing known before)) is) [] answers (omega arith) asked in
     omega (arith, all)
 
-pub few_answers : (part : Option Part) (request : Request) (answers : List MetaAnswer) → AreAsked (next_call part request) [] answers → length answers ≤ most_calls part request
-few_answers None (ask.Check moment region) [] asked = omega arith
-few_answers None (ask.Check moment region) (a ∷ answers) asked = absurd (let h = asked.0 in cc)
-few_answers None (ask.Patrol moment workers) [] asked = omega arith
-few_answers None (ask.Patrol moment workers) (a ∷ answers) asked = absurd (let h = asked.0 in cc)
-few_answers (Some part) (ask.Check moment region) answers asked =
+pub few_answers : (part : Option Part) (request : Request) (said : List Said) (answers : List MetaAnswer) → AreAsked (next_call part request said) [] answers → length answers ≤ most_calls part request
+few_answers None (ask.Check moment region) said [] asked = omega arith
+few_answers None (ask.Check moment region) said (a ∷ answers) asked = absurd (let h = asked.0 in cc)
+few_answers None (ask.Patrol moment workers) said [] asked = omega arith
+few_answers None (ask.Patrol moment workers) said (a ∷ answers) asked = absurd (let h = asked.0 in cc)
+few_answers None (ask.Schedule moment) said [] asked = omega arith
+few_answers None (ask.Schedule moment) said (a ∷ answers) asked = absurd (let h = asked.0 in cc)
+few_answers None (ask.Ctl moment words) said [] asked = omega arith
+few_answers None (ask.Ctl moment words) said (a ∷ answers) asked = absurd (let h = asked.0 in cc)
+few_answers (Some part) (ask.Check moment region) said answers asked =
     takes_few Deed _ (check_of part moment region) part.known answers (held_few (around_at part moment) (planning_of part) (region_in region part.standing)) asked
-few_answers (Some part) (ask.Patrol moment workers) answers asked = takes_few Deed _ (patrol_of part moment) part.known answers (patrol_few part moment) asked
-few_answers None (ask.Term term moment) answers asked = two_calls None (ask.Term term moment) answers tt asked
-few_answers None ask.Retire answers asked = two_calls None ask.Retire answers tt asked
-few_answers None (ask.Hello store moment address labels) answers asked = two_calls None (ask.Hello store moment address labels) answers tt asked
-few_answers None (ask.Alive store moment) answers asked = two_calls None (ask.Alive store moment) answers tt asked
-few_answers None (ask.Beat store moment beat) answers asked = two_calls None (ask.Beat store moment beat) answers tt asked
-few_answers None (ask.Rule moment json) answers asked = two_calls None (ask.Rule moment json) answers tt asked
-few_answers None (ask.Unrule moment group id) answers asked = two_calls None (ask.Unrule moment group id) answers tt asked
-few_answers (Some part) (ask.Term term moment) answers asked = two_calls (Some part) (ask.Term term moment) answers tt asked
-few_answers (Some part) ask.Retire answers asked = two_calls (Some part) ask.Retire answers tt asked
-few_answers (Some part) (ask.Hello store moment address labels) answers asked = two_calls (Some part) (ask.Hello store moment address labels) answers tt asked
-few_answers (Some part) (ask.Alive store moment) answers asked = two_calls (Some part) (ask.Alive store moment) answers tt asked
-few_answers (Some part) (ask.Beat store moment beat) answers asked = two_calls (Some part) (ask.Beat store moment beat) answers tt asked
-few_answers (Some part) (ask.Rule moment json) answers asked = two_calls (Some part) (ask.Rule moment json) answers tt asked
-few_answers (Some part) (ask.Unrule moment group id) answers asked = two_calls (Some part) (ask.Unrule moment group id) answers tt asked
+few_answers (Some part) (ask.Patrol moment workers) said answers asked = takes_few Deed _ (patrol_of part moment) part.known answers (patrol_few part moment) asked
+few_answers (Some part) (ask.Schedule moment) said answers asked = takes_few Deed _ (schedule_of part moment said) part.known answers (schedule_few (around_at part moment) (planning_of part) said) asked
+few_answers (Some part) (ask.Ctl moment words) said answers asked = takes_few Deed _ (ctl_of part moment words) part.known answers (words_few (around_at part moment) (planning_of part) (command_told words)) asked
+few_answers None (ask.Term term moment) said answers asked = two_calls None (ask.Term term moment) said answers tt asked
+few_answers None ask.Retire said answers asked = two_calls None ask.Retire said answers tt asked
+few_answers None (ask.Hello store moment address labels) said answers asked = two_calls None (ask.Hello store moment address labels) said answers tt asked
+few_answers None (ask.Alive store moment) said answers asked = two_calls None (ask.Alive store moment) said answers tt asked
+few_answers None (ask.Beat store moment beat) said answers asked = two_calls None (ask.Beat store moment beat) said answers tt asked
+few_answers None (ask.Rule moment json) said answers asked = two_calls None (ask.Rule moment json) said answers tt asked
+few_answers None (ask.Unrule moment group id) said answers asked = two_calls None (ask.Unrule moment group id) said answers tt asked
+few_answers (Some part) (ask.Term term moment) said answers asked = two_calls (Some part) (ask.Term term moment) said answers tt asked
+few_answers (Some part) ask.Retire said answers asked = two_calls (Some part) ask.Retire said answers tt asked
+few_answers (Some part) (ask.Hello store moment address labels) said answers asked = two_calls (Some part) (ask.Hello store moment address labels) said answers tt asked
+few_answers (Some part) (ask.Alive store moment) said answers asked = two_calls (Some part) (ask.Alive store moment) said answers tt asked
+few_answers (Some part) (ask.Beat store moment beat) said answers asked = two_calls (Some part) (ask.Beat store moment beat) said answers tt asked
+few_answers (Some part) (ask.Rule moment json) said answers asked = two_calls (Some part) (ask.Rule moment json) said answers tt asked
+few_answers (Some part) (ask.Unrule moment group id) said answers asked = two_calls (Some part) (ask.Unrule moment group id) said answers tt asked
 
 -- a call comes only behind so few answers
 turn_low : (calls : List MetaCall) (before : List MetaAnswer) (call : MetaCall) → in_turn calls before ≡ Some call → length before < length calls
@@ -258,33 +354,39 @@ turn_low (one ∷ calls) (answer ∷ before) call is = by (is_accepted answer.ve
     by true rest is = let low = rest is in omega (arith, low)
     by false rest is = absurd cc
 
-pub waits_few : (part : Option Part) (request : Request) (before : List MetaAnswer) (call : MetaCall) → next_call part request before ≡ Some call → length before < most_calls part request
-waits_few None (ask.Term term moment) before call is = let low = turn_low (calls.Lead term ∷ []) before call is in omega (arith, low)
-waits_few None ask.Retire before call is = absurd cc
-waits_few None (ask.Hello store moment address labels) before call is = absurd cc
-waits_few None (ask.Alive store moment) before call is = absurd cc
-waits_few None (ask.Beat store moment beat) before call is = absurd cc
-waits_few None (ask.Rule moment json) before call is = absurd cc
-waits_few None (ask.Unrule moment group id) before call is = absurd cc
-waits_few None (ask.Check moment region) before call is = absurd cc
-waits_few None (ask.Patrol moment workers) before call is = absurd cc
-waits_few (Some part) (ask.Term term moment) before call is = let low = turn_low (calls.Lead term ∷ []) before call is in omega (arith, low)
-waits_few (Some part) ask.Retire before call is = absurd cc
-waits_few (Some part) (ask.Hello store moment address labels) before call is =
+pub waits_few : (part : Option Part) (request : Request) (said : List Said) (before : List MetaAnswer) (call : MetaCall) → next_call part request said before ≡ Some call → length before < most_calls part request
+waits_few None (ask.Term term moment) said before call is = let low = turn_low (calls.Lead term ∷ []) before call is in omega (arith, low)
+waits_few None ask.Retire said before call is = absurd cc
+waits_few None (ask.Hello store moment address labels) said before call is = absurd cc
+waits_few None (ask.Alive store moment) said before call is = absurd cc
+waits_few None (ask.Beat store moment beat) said before call is = absurd cc
+waits_few None (ask.Rule moment json) said before call is = absurd cc
+waits_few None (ask.Unrule moment group id) said before call is = absurd cc
+waits_few None (ask.Check moment region) said before call is = absurd cc
+waits_few None (ask.Patrol moment workers) said before call is = absurd cc
+waits_few None (ask.Schedule moment) said before call is = absurd cc
+waits_few None (ask.Ctl moment words) said before call is = absurd cc
+waits_few (Some part) (ask.Term term moment) said before call is = let low = turn_low (calls.Lead term ∷ []) before call is in omega (arith, low)
+waits_few (Some part) ask.Retire said before call is = absurd cc
+waits_few (Some part) (ask.Hello store moment address labels) said before call is =
     let low = turn_low (hello_calls part store address labels) before call is in
     let one = unless_few (hello_refusal (state_at store part.stores) (length part.stores)) (put_call part (store_key store) (store_bytes (greeted_record part store address labels))) in
     omega (arith, low, one)
-waits_few (Some part) (ask.Alive store moment) before call is = absurd cc
-waits_few (Some part) (ask.Beat store moment beat) before call is = absurd cc
-waits_few (Some part) (ask.Rule moment json) before call is =
+waits_few (Some part) (ask.Alive store moment) said before call is = absurd cc
+waits_few (Some part) (ask.Beat store moment beat) said before call is = absurd cc
+waits_few (Some part) (ask.Rule moment json) said before call is =
     let low = turn_low (rule_calls part (rule_told json)) before call is in
     let two = rule_few part (rule_told json) in
     omega (arith, low, two)
-waits_few (Some part) (ask.Unrule moment group id) before call is =
+waits_few (Some part) (ask.Unrule moment group id) said before call is =
     let low = turn_low (unrule_calls part group id) before call is in
     let one = unrule_few part group id in
     omega (arith, low, one)
-waits_few (Some part) (ask.Check moment region) before call is =
+waits_few (Some part) (ask.Check moment region) said before call is =
     waits_low Deed _ (hearing part.known before) (check_of part moment region (hearing part.known before)) call (held_few (around_at part moment) (planning_of part) (region_in region part.standing) (hearing part.known before)) is
-waits_few (Some part) (ask.Patrol moment workers) before call is =
+waits_few (Some part) (ask.Patrol moment workers) said before call is =
     waits_low Deed _ (hearing part.known before) (patrol_of part moment (hearing part.known before)) call (patrol_few part moment (hearing part.known before)) is
+waits_few (Some part) (ask.Schedule moment) said before call is =
+    waits_low Deed _ (hearing part.known before) (schedule_of part moment said (hearing part.known before)) call (schedule_few (around_at part moment) (planning_of part) said (hearing part.known before)) is
+waits_few (Some part) (ask.Ctl moment words) said before call is =
+    waits_low Deed _ (hearing part.known before) (ctl_of part moment words (hearing part.known before)) call (words_few (around_at part moment) (planning_of part) (command_told words) (hearing part.known before)) is

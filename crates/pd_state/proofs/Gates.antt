@@ -19,7 +19,7 @@ use Rattle.op_control.specs.Adding.{added, refusal_of, with_new_id}
 use Rattle.op_control.specs.Changes.{SendsSafe}
 use Rattle.op_control.specs.Table.{Table, dispatch_answer}
 use Rattle.pd_state.specs.Adding.{Around, Drawn, Planning, Work, add_by, add_op, around_at, asks_id, enter, entered, entered_with, free_id, planning_of, with_window}
-use Rattle.pd_state.specs.Asking.{Hearing, done, hearing}
+use Rattle.pd_state.specs.Asking.{Hearing, done, hearing, write}
 use Rattle.pd_state.specs.Gates.{IsGated, IsSafeThere}
 use Rattle.pd_state.specs.Legal.{IsLegal, IsLegalAfter}
 use Rattle.pd_state.specs.Sends.{leader_store, message, region_in, sent_by}
@@ -41,7 +41,25 @@ use Rattle.heartbeat.specs.declared.intake.Intake.TheVariants as intakes
 use Rattle.heartbeat.specs.Intakes.{intake_of}
 use Rattle.rule_checker.specs.Told.{Told, Fits, Plans, Splits, Stuck}
 use Rattle.pd_state.specs.Checking.{Burial, Deed, Round, bury_all, check_held, check_of, check_op, check_told, deed_of, first_round, idle, is_busy, patrol, patrol_deed, patrol_of, plan_told, planned, plans_in, round_after, sweep, told_in, visit}
+use Rattle.pd_types.specs.declared.proposal.Proposal.{Proposal}
+use Rattle.sched_api.specs.declared.scheduler.Said.{Said}
+use Rattle.store_limit.specs.declared.limits.LimitKind.{LimitKind}
+use Rattle.store_table.specs.Entries.{entry_at}
+use Rattle.pd_ctl.specs.declared.command.Command.{Command}
+use Rattle.pd_ctl.specs.declared.command.Command.TheVariants as commands
+use Rattle.pd_ctl.specs.declared.fault.CtlFault.{CtlFault}
+use Rattle.pd_state.specs.Reports.{command_told}
+use Rattle.pd_state.specs.Scheduling.{heed, proposed, schedule, schedule_of, scheduler}
+use Rattle.pd_state.specs.declared.wishing.Asker.{Asker}
+use Rattle.op_step.specs.Wishes.{Plan, plan_of}
+use Rattle.op_step.specs.declared.wishes.Wish.{Wish}
+use Rattle.pd_types.specs.declared.store.StoreRec.{StoreRec}
+use Rattle.meta_store.specs.Stores.{store_bytes, store_key}
+use Rattle.meta_store.specs.declared.record.MetaVerdict.{MetaVerdict}
+use Rattle.meta_store.specs.declared.record.MetaVerdict.TheVariants as verdicts
+use Rattle.pd_state.specs.Ctl.{added_by_hand, admin, command_done, ctl_of, delete_by, delete_found, deleted_by, deletion, limit_found, remove_found, resigns, words_done}
 use Rattle.pd_state.specs.Heard.{heard_of}
+use Rattle.pd_state.specs.Wishing.{op_of, planned_or, region_of, steps_in, try_wished, wish_of, wished, wished_by}
 use Rattle.pd_state.specs.Legal.{beat_dispatch, beat_sents, first_reply, sents_by, term_in, term_sents}
 use Rattle.pd_state.specs.Replies.{beat_reply}
 use Rattle.pd_state.specs.Since.{since, since_by}
@@ -165,6 +183,7 @@ RoundSafe around round = AreSafe around.held around.stores around.now round.sent
 
 round_safe : (around : Around) (round : Round) (work : Work) (came : Adding) → RoundSafe around round → WorkSafe around work → RoundSafe around (round_after round work came)
 round_safe around round work (adding.Added answer) h k = safe_append around.held around.stores around.now round.sents work.sents h k
+round_safe around round work (adding.Build fault) h k = h
 round_safe around round work (adding.Add fault) h k = h
 round_safe around round work (adding.OldTerm fence) h k = h
 round_safe around round work (adding.Conflict found) h k = h
@@ -207,6 +226,90 @@ found_all : (held beats : List RegionBeat) → ((k : ℕ) (d : RegionBeat) → k
 found_all held [] h = tt
 found_all held (beat ∷ beats) h = (h 0 beat (omega arith), found_all held beats (λ k d low. h (suc k) d (omega arith)))
 
+-- what a wish sends
+abbrev FoundOr : List RegionBeat → Result Planned Adding → Type 0
+FoundOr held (Ok planned) = region_in planned.beat.region.id held ≡ Some planned.beat
+FoundOr held (Err why) = Unit {0}
+
+built_found : (held : List RegionBeat) (beat : RegionBeat) (plan : Plan) → region_in beat.region.id held ≡ Some beat → FoundOr held (planned_or beat plan)
+built_found held beat (Ok steps) here = here
+built_found held beat (Err fault) here = tt
+
+wish_found : (around : Around) (region : ℕ) (wish : Wish) (o : Option RegionBeat) → region_in region around.held ≡ o → FoundOr around.held (wished_by o around wish)
+wish_found around region wish None is = tt
+wish_found around region wish (Some beat) is = built_found around.held beat (plan_of wish beat around.stores around.now) (ap (λ (id : ℕ). region_in id around.held) (found_id region around.held beat is) ∙ is)
+
+try_safe : (around : Around) (asker : Asker) (planning : Planning) (found : Result Planned Adding) (at : Hearing) → FoundOr around.held found → Ends Work (WorkSafe around) (try_wished around asker planning found at)
+try_safe around asker planning (Ok planned) at here =
+    add_safe (refusal_of planning.operators (op_of asker planned) (Some planned.beat) planning.limits around.now) around (op_of asker planned) planned.beat planning at here
+try_safe around asker planning (Err why) at here = tt
+
+wish_safe : (around : Around) (asker : Asker) (planning : Planning) (region : ℕ) (wish : Wish) (at : Hearing) → Ends Work (WorkSafe around) (try_wished around asker planning (wished around region wish) at)
+wish_safe around asker planning region wish at = try_safe around asker planning (wished around region wish) at (wish_found around region wish (region_in region around.held) refl)
+
+-- what a scheduler's turn sends
+answer_safe : (around : Around) (planning : Planning) (name : List ℕ) (proposal : Option Proposal) (at : Hearing) → Ends Deed (DeedSafe around) (heed around planning name proposal at)
+answer_safe around planning name None at = tt
+answer_safe around planning name (Some proposal) at =
+    ends_on Work Deed (WorkSafe around) (DeedSafe around) (λ work. done (proposed around name proposal work)) (try_wished around (scheduler name) planning (wished around (region_of proposal) (wish_of proposal)) at)
+    (wish_safe around (scheduler name) planning (region_of proposal) (wish_of proposal) at) (λ work then h. h)
+
+schedule_safe : (around : Around) (planning : Planning) (said : List Said) (at : Hearing) → Ends Deed (DeedSafe around) (schedule around planning said at)
+schedule_safe around planning [] at = tt
+schedule_safe around planning (one ∷ more) at = answer_safe around planning one.name one.proposal at
+
+scheduled_safe : (part : Part) (moment : ℕ) (said : List Said) (answers : List MetaAnswer) → DeedSafe (around_at part moment) (deed_of (schedule_of part moment said) part moment answers)
+scheduled_safe part moment said answers =
+    ends_or Deed (DeedSafe (around_at part moment)) (idle (around_at part moment) (planning_of part) replies.NotLeading) (schedule_of part moment said (hearing part.known answers)) tt
+    (schedule_safe (around_at part moment) (planning_of part) said (hearing part.known answers))
+
+-- what a command sends
+verdict_safe : (around : Around) (planning : Planning) (id : ℕ) (verdict : MetaVerdict) → DeedSafe around (deleted_by around planning id verdict)
+verdict_safe around planning id (verdicts.Accepted revision) = tt
+verdict_safe around planning id (verdicts.OldTerm fence) = tt
+verdict_safe around planning id (verdicts.Conflict found) = tt
+verdict_safe around planning id verdicts.Limit = tt
+
+by_safe : (r : Result StoreRec Reply) (around : Around) (planning : Planning) (at : Hearing) → Ends Deed (DeedSafe around) (delete_by r around planning at)
+by_safe (Ok rec) around planning at =
+    ends_on MetaVerdict Deed (λ v. Unit {0}) (DeedSafe around) (λ verdict. done (deleted_by around planning rec.id verdict)) (write around.term (store_key rec.id) (store_bytes rec) at) (ends_any MetaVerdict _)
+    (λ verdict then u. verdict_safe around planning rec.id verdict)
+by_safe (Err reply) around planning at = tt
+
+delete_safe : (o : Option StoreEntry) (around : Around) (planning : Planning) (at : Hearing) → Ends Deed (DeedSafe around) (delete_found o around planning at)
+delete_safe o around planning at = by_safe (deletion o) around planning at
+
+limit_safe : (o : Option StoreEntry) (around : Around) (planning : Planning) (id rate : ℕ) (kind : LimitKind) (at : Hearing) → Ends Deed (DeedSafe around) (limit_found o around planning id rate kind at)
+limit_safe None around planning id rate kind at = tt
+limit_safe (Some entry) around planning id rate kind at = tt
+
+remove_safe : (o : Option Operator) (around : Around) (planning : Planning) (region : ℕ) (at : Hearing) → Ends Deed (DeedSafe around) (remove_found o around planning region at)
+remove_safe None around planning region at = tt
+remove_safe (Some op) around planning region at = tt
+
+command_safe : (around : Around) (planning : Planning) (command : Command) (at : Hearing) → Ends Deed (DeedSafe around) (command_done around planning command at)
+command_safe around planning (commands.StoreDelete id) at = delete_safe (entry_at id around.stores) around planning at
+command_safe around planning (commands.StoreLimit id rate kind) at = limit_safe (entry_at id around.stores) around planning id rate kind at
+command_safe around planning (commands.OperatorAdd region wish) at =
+    ends_on Work Deed (WorkSafe around) (DeedSafe around) (λ work. done (added_by_hand around (steps_in (wished around region wish)) work)) (try_wished around admin planning (wished around region wish) at)
+    (wish_safe around admin planning region wish at) (λ work then h. h)
+command_safe around planning (commands.OperatorRemove region) at = remove_safe (active_at planning.operators region) around planning region at
+command_safe around planning command at = tt
+
+words_safe : (around : Around) (planning : Planning) (told : Result Command CtlFault) (at : Hearing) → Ends Deed (DeedSafe around) (words_done around planning told at)
+words_safe around planning (Ok command) at = command_safe around planning command at
+words_safe around planning (Err fault) at = tt
+
+commanded_safe : (part : Part) (moment : ℕ) (words : List ℕ) (answers : List MetaAnswer) → DeedSafe (around_at part moment) (deed_of (ctl_of part moment words) part moment answers)
+commanded_safe part moment words answers =
+    ends_or Deed (DeedSafe (around_at part moment)) (idle (around_at part moment) (planning_of part) replies.NotLeading) (ctl_of part moment words (hearing part.known answers)) tt
+    (words_safe (around_at part moment) (planning_of part) (command_told words) (hearing part.known answers))
+
+-- a command that leaves a term
+goes_on : (t : Bool) (es : List Entry) (after : Part) → option_map part_of (cond t None (Some es)) ≡ Some after → Some (part_of es) ≡ Some after
+goes_on true es after is = absurd cc
+goes_on false es after is = is
+
 -- an accepted heartbeat stands afterwards
 beat_held : (bs : List RegionBeat) (beat : RegionBeat) → region_in beat.region.id (table_of (beat ∷ bs)) ≡ Some beat
 beat_held bs beat = ap (region_in beat.region.id) (stand_more beat bs) ∙ found_put beat (table_of bs)
@@ -232,22 +335,28 @@ after_is e es r after asked is = ap (λ (p : Part). p.standing) (sym (some_part 
 abbrev SafeBy : Part → Part → Entry → Request → Type 0
 SafeBy before after e r = AreSafe after.standing before.stores (max before.clock (moment_of r)) (term_sents before r e.reply (heard_of e))
 
-safe_by : (e : Entry) (es : List Entry) (r : Request) (after : Part) → e.request ≡ r → IsTable (beats_of es) (part_of es).standing → e.reply ≡ first_reply (Some (part_of es)) r (heard_of e) → option_map part_of (since_by r e (Some es)) ≡ Some after → SafeBy (part_of es) after e r
-safe_by e es (ask.Beat store moment beat) after asked table said is =
+safe_by : (driver : ℕ) (e : Entry) (es : List Entry) (r : Request) (after : Part) → e.request ≡ r → IsTable (beats_of es) (part_of es).standing → e.reply ≡ first_reply driver (Some (part_of es)) r (heard_of e) → option_map part_of (since_by r e (Some es)) ≡ Some after → SafeBy (part_of es) after e r
+safe_by driver e es (ask.Beat store moment beat) after asked table said is =
     subst (λ (held : List RegionBeat). AreSafe held (part_of es).stores (max (clock_of es) moment) (beat_sents e.reply beat)) (sym (after_is e es (ask.Beat store moment beat) after asked is))
     (beat_safe (beats_of es) (part_of es).stores (max (clock_of es) moment) beat (intake_of beat (part_of es).standing) (beat_dispatch (part_of es) moment beat) e.reply said (dispatch_safe (freed beat (part_of es).standing (part_of es).operators) beat (part_of es).stores (max (clock_of es) moment)))
-safe_by e es (ask.Check moment region) after asked table said is =
+safe_by driver e es (ask.Check moment region) after asked table said is =
     subst (λ (held : List RegionBeat). AreSafe held (part_of es).stores (max (clock_of es) moment) (deed_of (check_of (part_of es) moment region) (part_of es) moment e.answers).sents) (sym (after_is e es (ask.Check moment region) after asked is))
     (checked_safe (part_of es) moment region e.answers)
-safe_by e es (ask.Patrol moment workers) after asked table said is =
+safe_by driver e es (ask.Patrol moment workers) after asked table said is =
     subst (λ (held : List RegionBeat). AreSafe held (part_of es).stores (max (clock_of es) moment) (deed_of (patrol_of (part_of es) moment) (part_of es) moment e.answers).sents) (sym (after_is e es (ask.Patrol moment workers) after asked is))
     (patrolled_safe (part_of es) moment e.answers (found_all (part_of es).standing (part_of es).standing (found_at (part_of es).standing table.apart)))
-safe_by e es (ask.Term term moment) after asked table said is = tt
-safe_by e es ask.Retire after asked table said is = tt
-safe_by e es (ask.Hello store moment address labels) after asked table said is = tt
-safe_by e es (ask.Alive store moment) after asked table said is = tt
-safe_by e es (ask.Rule moment json) after asked table said is = tt
-safe_by e es (ask.Unrule moment group id) after asked table said is = tt
+safe_by driver e es (ask.Schedule moment) after asked table said is =
+    subst (λ (held : List RegionBeat). AreSafe held (part_of es).stores (max (clock_of es) moment) (deed_of (schedule_of (part_of es) moment e.bench) (part_of es) moment e.answers).sents) (sym (after_is e es (ask.Schedule moment) after asked is))
+    (scheduled_safe (part_of es) moment e.bench e.answers)
+safe_by driver e es (ask.Ctl moment words) after asked table said is =
+    subst (λ (held : List RegionBeat). AreSafe held (part_of es).stores (max (clock_of es) moment) (deed_of (ctl_of (part_of es) moment words) (part_of es) moment e.answers).sents)
+    (sym (after_is e es (ask.Ctl moment words) after asked (goes_on (resigns words) (e ∷ es) after is))) (commanded_safe (part_of es) moment words e.answers)
+safe_by driver e es (ask.Term term moment) after asked table said is = tt
+safe_by driver e es ask.Retire after asked table said is = tt
+safe_by driver e es (ask.Hello store moment address labels) after asked table said is = tt
+safe_by driver e es (ask.Alive store moment) after asked table said is = tt
+safe_by driver e es (ask.Rule moment json) after asked table said is = tt
+safe_by driver e es (ask.Unrule moment group id) after asked table said is = tt
 
 messages_safe : (before after : Part) (now driver term entry : ℕ) (sents : List Sent) → AreSafe after.standing before.stores now sents → All (IsSafeThere before after now) (map (message driver term entry) sents)
 messages_safe before after now driver term entry [] h = All-nil (IsSafeThere before after now)
@@ -255,7 +364,7 @@ messages_safe before after now driver term entry (sent ∷ sents) h =
     All-cons (IsSafeThere before after now) (message driver term entry sent) (map (message driver term entry) sents)
     (let s = h.0 in record { beat = s.beat; held = s.held_at; leader = s.leader; safe = s.safe }) (messages_safe before after now driver term entry sents h.1)
 
-gated_by : (s : Option (List Entry)) (e : Entry) (driver entry : ℕ) → ((es : List Entry) → s ≡ Some es → IsTable (beats_of es) (part_of es).standing) → e.reply ≡ first_reply (option_map part_of s) e.request (heard_of e)
+gated_by : (s : Option (List Entry)) (e : Entry) (driver entry : ℕ) → ((es : List Entry) → s ≡ Some es → IsTable (beats_of es) (part_of es).standing) → e.reply ≡ first_reply driver (option_map part_of s) e.request (heard_of e)
     → e.sends ≡ map (message driver (term_in (option_map part_of s)) entry) (sents_by (option_map part_of s) e.request e.reply (heard_of e))
     → (before after : Part) → option_map part_of s ≡ Some before → option_map part_of (since_by e.request e s) ≡ Some after → All (IsSafeThere before after (max before.clock (moment_of e.request))) e.sends
 gated_by None e driver entry table said sends before after was is = absurd cc
@@ -263,7 +372,7 @@ gated_by (Some es) e driver entry table said sends before after was is =
     let same : part_of es ≡ before = some_part (part_of es) before was in
     subst (λ (p : Part). All (IsSafeThere p after (max p.clock (moment_of e.request))) e.sends) same
     (subst (All (IsSafeThere (part_of es) after (max (clock_of es) (moment_of e.request)))) (sym sends)
-    (messages_safe (part_of es) after (max (clock_of es) (moment_of e.request)) driver (term_of es) entry (term_sents (part_of es) e.request e.reply (heard_of e)) (safe_by e es e.request after refl (table es refl) said is)))
+    (messages_safe (part_of es) after (max (clock_of es) (moment_of e.request)) driver (term_of es) entry (term_sents (part_of es) e.request e.reply (heard_of e)) (safe_by driver e es e.request after refl (table es refl) said is)))
 
 pub gated : (driver : ℕ) (past : List Entry) (entry : Entry) → IsLegal driver past → IsLegalAfter driver past entry → IsGated past entry
 gated driver past entry legal here = λ before after was is.

@@ -43,6 +43,10 @@ alive_refused replies.NoFault store at moment before other = refl
 alive_refused (replies.Plan class from to came) store at moment before other = refl
 alive_refused (replies.NoPlan from) store at moment before other = refl
 alive_refused (replies.Patrolled regions ok split plan no_plan added buried) store at moment before other = refl
+alive_refused replies.NoScheduler store at moment before other = refl
+alive_refused (replies.Silent name) store at moment before other = refl
+alive_refused (replies.Proposed name proposal came) store at moment before other = refl
+alive_refused (replies.Report json) store at moment before other = refl
 
 pub hello_refused : (reply : Reply) (store at moment : ℕ) (before : Option ℕ) → reply ≢ replies.StorePut → hello_by reply store at moment before ≡ before
 hello_refused replies.StorePut store at moment before other = absurd (other refl)
@@ -72,6 +76,10 @@ hello_refused replies.NoFault store at moment before other = refl
 hello_refused (replies.Plan class from to came) store at moment before other = refl
 hello_refused (replies.NoPlan from) store at moment before other = refl
 hello_refused (replies.Patrolled regions ok split plan no_plan added buried) store at moment before other = refl
+hello_refused replies.NoScheduler store at moment before other = refl
+hello_refused (replies.Silent name) store at moment before other = refl
+hello_refused (replies.Proposed name proposal came) store at moment before other = refl
+hello_refused (replies.Report json) store at moment before other = refl
 
 -- each store's silence is counted from the beginning of the term
 pub began_alike : (entries : List Entry) → All (λ (store : StoreEntry). store.began ≡ began_of entries) (part_of entries).stores

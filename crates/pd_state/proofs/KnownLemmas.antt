@@ -1,5 +1,5 @@
 -- The records of stores, by who said hello.
-use Rattle.std.proofs.Common.{refl, ◌≡◌, ◌≢◌, ℕ, zero, suc, ◌<◌, Bool, true, false, cond, ◌||◌, ◌⊎◌, inl, inr, fold, nat_eq, nat_le, nat_lt, List, [], ◌∷◌, ◌++◌, length, get_or, map, ap, sym, subst, ◌∙◌, Option, Some, None, arith}
+use Rattle.std.proofs.Common.{refl, ◌≡◌, ◌≢◌, ℕ, zero, suc, ◌<◌, Bool, true, false, cond, ◌&&◌, ◌||◌, ◌⊎◌, inl, inr, fold, nat_eq, nat_le, nat_lt, List, [], ◌∷◌, ◌++◌, length, get_or, map, ap, sym, subst, ◌∙◌, Option, Some, None, arith}
 use Rattle.std.proofs.lemmas.Bool.Decides.{nat_tests}
 use Rattle.std.proofs.lemmas.List.Elements.{All-append, filter_passes}
 use Rattle.std.proofs.lemmas.List.Kept.{AllPairs-cons, AllPairs-filter}
@@ -27,8 +27,11 @@ use Rattle.pd_state.specs.Heard.{handed_out, heard_of}
 use Rattle.pd_state.specs.Since.{begun, since, since_by}
 use Rattle.pd_state.specs.State.{greeted_by, greeting, kept_state, records_by, records_of, store_of, part_of}
 use Rattle.pd_state.specs.Checking.{deed_of, patrol_of}
-use Rattle.pd_state.specs.Known.{begun_with, buried_state, entombs, handed_to, has_tombstone, is_entombed, is_tombstone, state_or_up, where_put, greets, is_hello, LastHello, WasHanded, AreKnown}
-use Rattle.pd_state.proofs.Buried.{AreBuried, deed_buried, id_is}
+use Rattle.pd_state.specs.Ctl.{ctl_of, resigns}
+use Rattle.pd_state.specs.Known.{begun_with, buried_state, deleted_state, deletes, entombs, handed_to, has_offline, has_tombstone, is_deleted, is_entombed, is_offline, is_tombstone, names_store, state_or_up, where_put, greets, is_hello, LastHello, WasHanded, AreKnown}
+use Rattle.pd_state.specs.Reports.{command_told}
+use Rattle.pd_state.proofs.Buried.{AreRestated, deed_buried, deed_deleted, id_is}
+use Rattle.pd_state.proofs.Deleted.{Left, deed_left}
 use Rattle.pd_state.proofs.Rows.{entry_map, placed_map}
 
 -- a record is found once it is placed, and those of other ids as before
@@ -80,6 +83,15 @@ TermPart (e ∷ entries) = part_by e.request entries (TermPart entries)
 cons_same : (e : Entry) (fs entries : List Entry) → Some (e ∷ fs) ≡ Some entries → e ∷ fs ≡ entries
 cons_same e fs entries h = cc
 
+-- a command goes on with the term, unless it gives it up
+no_part : (t : Bool) (entries : List Entry) → cond t None None ≡ Some entries → ⊥
+no_part true entries h = cc
+no_part false entries h = cc
+
+goes_on : (t : Bool) (e : Entry) (fs entries : List Entry) → cond t None (Some (e ∷ fs)) ≡ Some entries → Some (e ∷ fs) ≡ Some entries
+goes_on true e fs entries h = absurd cc
+goes_on false e fs entries h = h
+
 part_one : (e : Entry) (r : Request) (s : Option (List Entry)) (entries : List Entry) → e.request ≡ r → ((fs : List Entry) → s ≡ Some fs → TermPart fs) → since_by r e s ≡ Some entries → TermPart entries
 part_one e (ask.Term term moment) s entries is rest h = begun_one e.reply h
   where
@@ -97,6 +109,8 @@ part_one e (ask.Rule moment json) None entries is rest h = absurd cc
 part_one e (ask.Unrule moment group id) None entries is rest h = absurd cc
 part_one e (ask.Check moment region) None entries is rest h = absurd cc
 part_one e (ask.Patrol moment workers) None entries is rest h = absurd cc
+part_one e (ask.Schedule moment) None entries is rest h = absurd cc
+part_one e (ask.Ctl moment words) None entries is rest h = absurd (no_part (resigns words) entries h)
 part_one e (ask.Hello store moment address labels) (Some fs) entries is rest h = subst TermPart (cons_same e fs entries h) (subst (λ (r : Request). part_by r fs (TermPart fs)) (sym is) (rest fs refl))
 part_one e (ask.Alive store moment) (Some fs) entries is rest h = subst TermPart (cons_same e fs entries h) (subst (λ (r : Request). part_by r fs (TermPart fs)) (sym is) (rest fs refl))
 part_one e (ask.Beat store moment beat) (Some fs) entries is rest h = subst TermPart (cons_same e fs entries h) (subst (λ (r : Request). part_by r fs (TermPart fs)) (sym is) (rest fs refl))
@@ -104,6 +118,8 @@ part_one e (ask.Rule moment json) (Some fs) entries is rest h = subst TermPart (
 part_one e (ask.Unrule moment group id) (Some fs) entries is rest h = subst TermPart (cons_same e fs entries h) (subst (λ (r : Request). part_by r fs (TermPart fs)) (sym is) (rest fs refl))
 part_one e (ask.Check moment region) (Some fs) entries is rest h = subst TermPart (cons_same e fs entries h) (subst (λ (r : Request). part_by r fs (TermPart fs)) (sym is) (rest fs refl))
 part_one e (ask.Patrol moment workers) (Some fs) entries is rest h = subst TermPart (cons_same e fs entries h) (subst (λ (r : Request). part_by r fs (TermPart fs)) (sym is) (rest fs refl))
+part_one e (ask.Schedule moment) (Some fs) entries is rest h = subst TermPart (cons_same e fs entries h) (subst (λ (r : Request). part_by r fs (TermPart fs)) (sym is) (rest fs refl))
+part_one e (ask.Ctl moment words) (Some fs) entries is rest h = subst TermPart (cons_same e fs entries (goes_on (resigns words) e fs entries h)) (subst (λ (r : Request). part_by r fs (TermPart fs)) (sym is) (rest fs refl))
 
 pub term_part : (past entries : List Entry) → since past ≡ Some entries → TermPart entries
 term_part [] entries h = absurd cc
@@ -128,13 +144,13 @@ hello_knows replies.StorePut at moment address labels recs store b h = by (nat_e
 hello_knows p at moment address labels recs store b h = h
 
 -- a patrol leaves which stores are known
-known_rows : (es : List Entry) (store : ℕ) (recs : List StoreRec) (stores : List StoreEntry) → AreBuried (map (store_of es) recs) stores → is_some (record_at store (map (λ (entry : StoreEntry). entry.store) stores)) ≡ is_some (record_at store recs)
-known_rows es store [] [] h = refl
-known_rows es store [] (entry ∷ stores) h = absurd h
-known_rows es store (rec ∷ recs) [] h = absurd h
-known_rows es store (rec ∷ recs) (entry ∷ stores) h =
-    ap (λ (n : ℕ). is_some (cond (nat_eq n store) (Some entry.store) (record_at store (map (λ (e : StoreEntry). e.store) stores)))) (id_is es rec entry h.0)
-    ∙ by (nat_eq rec.id store) (known_rows es store recs stores h.1)
+known_rows : (state : StoreState) (es : List Entry) (store : ℕ) (recs : List StoreRec) (stores : List StoreEntry) → AreRestated state (map (store_of es) recs) stores → is_some (record_at store (map (λ (entry : StoreEntry). entry.store) stores)) ≡ is_some (record_at store recs)
+known_rows state es store [] [] h = refl
+known_rows state es store [] (entry ∷ stores) h = absurd h
+known_rows state es store (rec ∷ recs) [] h = absurd h
+known_rows state es store (rec ∷ recs) (entry ∷ stores) h =
+    ap (λ (n : ℕ). is_some (cond (nat_eq n store) (Some entry.store) (record_at store (map (λ (e : StoreEntry). e.store) stores)))) (id_is state es rec entry h.0)
+    ∙ by (nat_eq rec.id store) (known_rows state es store recs stores h.1)
   where
     by : (t : Bool) → is_some (record_at store (map (λ (e : StoreEntry). e.store) stores)) ≡ is_some (record_at store recs) → is_some (cond t (Some entry.store) (record_at store (map (λ (e : StoreEntry). e.store) stores))) ≡ is_some (cond t (Some rec) (record_at store recs))
     by true rest = refl
@@ -142,7 +158,12 @@ known_rows es store (rec ∷ recs) (entry ∷ stores) h =
 
 known_patrol : (entries : List Entry) (moment store : ℕ) (answers : List MetaAnswer)
     → is_some (record_at store (map (λ (entry : StoreEntry). entry.store) (deed_of (patrol_of (part_of entries) moment) (part_of entries) moment answers).stores)) ≡ is_some (record_at store (records_of entries))
-known_patrol entries moment store answers = known_rows entries store (records_of entries) _ (deed_buried entries moment answers)
+known_patrol entries moment store answers = known_rows Tombstone entries store (records_of entries) _ (deed_buried entries moment answers)
+
+-- so does a command of pd-ctl
+known_ctl : (entries : List Entry) (moment store : ℕ) (words : List ℕ) (answers : List MetaAnswer)
+    → is_some (record_at store (map (λ (entry : StoreEntry). entry.store) (deed_of (ctl_of (part_of entries) moment words) (part_of entries) moment answers).stores)) ≡ is_some (record_at store (records_of entries))
+known_ctl entries moment store words answers = known_rows Offline entries store (records_of entries) _ (deed_deleted entries moment words answers)
 
 known_one : (r : Request) (e : Entry) (entries : List Entry) (store : ℕ) → part_by r entries (TermPart entries)
     → (TermPart entries → is_some (record_at store (records_of entries)) ≡ list_any (is_hello store) entries || is_some (record_at store (stores_told (handed_to entries)))) → Knows r e entries store
@@ -156,6 +177,8 @@ known_one (ask.Rule moment json) e entries store part rest = rest part
 known_one (ask.Unrule moment group id) e entries store part rest = rest part
 known_one (ask.Check moment region) e entries store part rest = rest part
 known_one (ask.Patrol moment workers) e entries store part rest = known_patrol entries moment store e.answers ∙ rest part
+known_one (ask.Schedule moment) e entries store part rest = rest part
+known_one (ask.Ctl moment words) e entries store part rest = known_ctl entries moment store words e.answers ∙ rest part
 
 known_all : (entries : List Entry) → TermPart entries → (store : ℕ) → is_some (record_at store (records_of entries)) ≡ list_any (is_hello store) entries || is_some (record_at store (stores_told (handed_to entries)))
 known_all [] part store = absurd part
@@ -232,20 +255,20 @@ told_hello e entries at moment address labels p asked put told store rec found =
     told_before e entries store rec (ap (λ (r : Request). greets store r e.reply) asked ∙ ap (λ (q : Reply). where_put q (nat_eq at store)) put) (ap (λ (r : Request). begun_with r (handed_out e.answers) (handed_to entries)) asked) (told store rec found)
 
 -- a record that a patrol leaves, and the one before it: at most the state differs
-record_before : (es : List Entry) (store : ℕ) (recs : List StoreRec) (stores : List StoreEntry) (rec : StoreRec) → AreBuried (map (store_of es) recs) stores → record_at store (map (λ (entry : StoreEntry). entry.store) stores) ≡ Some rec
-    → (was : StoreRec) × (record_at store recs ≡ Some was) × (rec.address ≡ was.address) × (rec.labels ≡ was.labels) × ((rec ≡ was) ⊎ (rec.state ≡ Tombstone))
-record_before es store [] [] rec h found = absurd cc
-record_before es store [] (entry ∷ stores) rec h found = absurd h
-record_before es store (one ∷ recs) [] rec h found = absurd h
-record_before es store (one ∷ recs) (entry ∷ stores) rec h found = by (nat_eq one.id store) refl (ap (λ (n : ℕ). cond (nat_eq n store) (Some entry.store) (record_at store (map (λ (e : StoreEntry). e.store) stores))) (sym (id_is es one entry h.0)) ∙ found) (record_before es store recs stores rec h.1)
+record_before : (state : StoreState) (es : List Entry) (store : ℕ) (recs : List StoreRec) (stores : List StoreEntry) (rec : StoreRec) → AreRestated state (map (store_of es) recs) stores → record_at store (map (λ (entry : StoreEntry). entry.store) stores) ≡ Some rec
+    → (was : StoreRec) × (record_at store recs ≡ Some was) × (rec.address ≡ was.address) × (rec.labels ≡ was.labels) × ((rec ≡ was) ⊎ (rec.state ≡ state))
+record_before state es store [] [] rec h found = absurd cc
+record_before state es store [] (entry ∷ stores) rec h found = absurd h
+record_before state es store (one ∷ recs) [] rec h found = absurd h
+record_before state es store (one ∷ recs) (entry ∷ stores) rec h found = by (nat_eq one.id store) refl (ap (λ (n : ℕ). cond (nat_eq n store) (Some entry.store) (record_at store (map (λ (e : StoreEntry). e.store) stores))) (sym (id_is state es one entry h.0)) ∙ found) (record_before state es store recs stores rec h.1)
   where
-    own : (entry ≡ store_of es one) ⊎ (entry ≡ in_state Tombstone (store_of es one)) → entry.store ≡ rec → (rec.address ≡ one.address) × (rec.labels ≡ one.labels) × ((rec ≡ one) ⊎ (rec.state ≡ Tombstone))
+    own : (entry ≡ store_of es one) ⊎ (entry ≡ in_state state (store_of es one)) → entry.store ≡ rec → (rec.address ≡ one.address) × (rec.labels ≡ one.labels) × ((rec ≡ one) ⊎ (rec.state ≡ state))
     own (inl is) at = (ap (λ (r : StoreRec). r.address) (sym at) ∙ ap (λ (e : StoreEntry). e.store.address) is, ap (λ (r : StoreRec). r.labels) (sym at) ∙ ap (λ (e : StoreEntry). e.store.labels) is, inl (sym at ∙ ap (λ (e : StoreEntry). e.store) is))
     own (inr is) at = (ap (λ (r : StoreRec). r.address) (sym at) ∙ ap (λ (e : StoreEntry). e.store.address) is, ap (λ (r : StoreRec). r.labels) (sym at) ∙ ap (λ (e : StoreEntry). e.store.labels) is, inr (ap (λ (r : StoreRec). r.state) (sym at) ∙ ap (λ (e : StoreEntry). e.store.state) is))
 
     by : (t : Bool) → nat_eq one.id store ≡ t → cond t (Some entry.store) (record_at store (map (λ (e : StoreEntry). e.store) stores)) ≡ Some rec
-        → (record_at store (map (λ (e : StoreEntry). e.store) stores) ≡ Some rec → (was : StoreRec) × (record_at store recs ≡ Some was) × (rec.address ≡ was.address) × (rec.labels ≡ was.labels) × ((rec ≡ was) ⊎ (rec.state ≡ Tombstone)))
-        → (was : StoreRec) × (cond (nat_eq one.id store) (Some one) (record_at store recs) ≡ Some was) × (rec.address ≡ was.address) × (rec.labels ≡ was.labels) × ((rec ≡ was) ⊎ (rec.state ≡ Tombstone))
+        → (record_at store (map (λ (e : StoreEntry). e.store) stores) ≡ Some rec → (was : StoreRec) × (record_at store recs ≡ Some was) × (rec.address ≡ was.address) × (rec.labels ≡ was.labels) × ((rec ≡ was) ⊎ (rec.state ≡ state)))
+        → (was : StoreRec) × (cond (nat_eq one.id store) (Some one) (record_at store recs) ≡ Some was) × (rec.address ≡ was.address) × (rec.labels ≡ was.labels) × ((rec ≡ was) ⊎ (rec.state ≡ state))
     by true is at rest = let o = own h.0 (some_same entry.store rec at) in (one, ap (λ (t : Bool). cond t (Some one) (record_at store recs)) is, o.0, o.1, o.2)
     by false is at rest = let r = rest at in (r.0, ap (λ (t : Bool). cond t (Some one) (record_at store recs)) is ∙ r.1, r.2, r.3, r.4)
 
@@ -276,7 +299,13 @@ told_one (ask.Unrule moment group id) e entries asked part rest store rec found 
 told_one (ask.Check moment region) e entries asked part rest store rec found =
     told_before e entries store rec (ap (λ (r : Request). greets store r e.reply) asked) (ap (λ (r : Request). begun_with r (handed_out e.answers) (handed_to entries)) asked) (rest part store rec found)
 told_one (ask.Patrol moment workers) e entries asked part rest store rec found =
-    let was = record_before entries store (records_of entries) _ rec (deed_buried entries moment e.answers) found in
+    let was = record_before Tombstone entries store (records_of entries) _ rec (deed_buried entries moment e.answers) found in
+    told_again (e ∷ entries) store was.0 rec was.2 was.3
+    (told_before e entries store was.0 (ap (λ (r : Request). greets store r e.reply) asked) (ap (λ (r : Request). begun_with r (handed_out e.answers) (handed_to entries)) asked) (rest part store was.0 was.1))
+told_one (ask.Schedule moment) e entries asked part rest store rec found =
+    told_before e entries store rec (ap (λ (r : Request). greets store r e.reply) asked) (ap (λ (r : Request). begun_with r (handed_out e.answers) (handed_to entries)) asked) (rest part store rec found)
+told_one (ask.Ctl moment words) e entries asked part rest store rec found =
+    let was = record_before Offline entries store (records_of entries) _ rec (deed_deleted entries moment words e.answers) found in
     told_again (e ∷ entries) store was.0 rec was.2 was.3
     (told_before e entries store was.0 (ap (λ (r : Request). greets store r e.reply) asked) (ap (λ (r : Request). begun_with r (handed_out e.answers) (handed_to entries)) asked) (rest part store was.0 was.1))
 
@@ -290,13 +319,18 @@ or_none true o h = absurd cc
 or_none false None h = refl
 or_none false (Some rec) h = absurd cc
 
-abbrev InState : List Entry → List Cell → Type 0
-InState entries cells = (store : ℕ) (rec : StoreRec) → record_at store (records_of entries) ≡ Some rec → rec.state ≡ buried_state (is_entombed store entries) (state_or_up (record_at store (stores_told cells)))
+-- the state of a store that was entombed, or deleted, or neither, by its record as it was handed out
+abbrev state_now : Bool → Bool → Option StoreRec → StoreState
+state_now tomb gone before = buried_state tomb (deleted_state gone (state_or_up before))
 
-state_own : (o before : Option StoreRec) (rec : StoreRec) (t : Bool) → rec.state ≡ Up → (is_some o ≡ false → before ≡ None) → (is_some o ≡ false → t ≡ false) → ((known : StoreRec) → o ≡ Some known → known.state ≡ buried_state t (state_or_up before))
-    → (kept_state o rec).state ≡ buried_state t (state_or_up before)
-state_own None before rec t up none new known = up ∙ ap state_or_up (sym (none refl)) ∙ ap (λ (b : Bool). buried_state b (state_or_up before)) (sym (new refl))
-state_own (Some rec) before one t up none new known = known rec refl
+abbrev InState : List Entry → List Cell → Type 0
+InState entries cells = (store : ℕ) (rec : StoreRec) → record_at store (records_of entries) ≡ Some rec → rec.state ≡ state_now (is_entombed store entries) (is_deleted store entries) (record_at store (stores_told cells))
+
+state_own : (o before : Option StoreRec) (rec : StoreRec) (t d : Bool) → rec.state ≡ Up → (is_some o ≡ false → before ≡ None) → (is_some o ≡ false → t ≡ false) → (is_some o ≡ false → d ≡ false)
+    → ((known : StoreRec) → o ≡ Some known → known.state ≡ state_now t d before) → (kept_state o rec).state ≡ state_now t d before
+state_own None before rec t d up none new kept known =
+    up ∙ ap state_or_up (sym (none refl)) ∙ ap (λ (b : Bool). buried_state b (state_or_up before)) (sym (new refl)) ∙ ap (λ (b : Bool). buried_state t (deleted_state b (state_or_up before))) (sym (kept refl))
+state_own (Some rec) before one t d up none new kept known = known rec refl
 
 -- a store that was entombed is known
 abbrev Entombed : List Entry → Type 0
@@ -334,6 +368,8 @@ entombed_one (ask.Beat at moment beat) e entries part rest store none = rest par
 entombed_one (ask.Rule moment json) e entries part rest store none = rest part store none
 entombed_one (ask.Unrule moment group id) e entries part rest store none = rest part store none
 entombed_one (ask.Check moment region) e entries part rest store none = rest part store none
+entombed_one (ask.Schedule moment) e entries part rest store none = rest part store none
+entombed_one (ask.Ctl moment words) e entries part rest store none = rest part store (sym (known_ctl entries moment store words e.answers) ∙ none)
 entombed_one (ask.Patrol moment workers) e entries part rest store none =
     either_false _ (is_entombed store entries) (no_tomb (deed_of (patrol_of (part_of entries) moment) (part_of entries) moment e.answers).stores store none) (rest part store (sym (known_patrol entries moment store e.answers) ∙ none))
 
@@ -341,17 +377,55 @@ entombed_all : (entries : List Entry) → TermPart entries → Entombed entries
 entombed_all [] part = absurd part
 entombed_all (e ∷ entries) part = entombed_one e.request e entries part (λ p. entombed_all entries p)
 
+-- so is one that was deleted
+abbrev Deleted : List Entry → Type 0
+Deleted entries = (store : ℕ) → is_some (record_at store (records_of entries)) ≡ false → is_deleted store entries ≡ false
+
+no_offline : (stores : List StoreEntry) (store : ℕ) → is_some (record_at store (map (λ (entry : StoreEntry). entry.store) stores)) ≡ false → has_offline (state_at store stores) ≡ false
+no_offline [] store none = refl
+no_offline (entry ∷ stores) store none = by (nat_eq entry.store.id store) none (no_offline stores store)
+  where
+    by : (t : Bool) → is_some (cond t (Some entry.store) (record_at store (map (λ (e : StoreEntry). e.store) stores))) ≡ false
+        → (is_some (record_at store (map (λ (e : StoreEntry). e.store) stores)) ≡ false → has_offline (state_at store stores) ≡ false)
+        → has_offline (option_map (λ (e : StoreEntry). e.store.state) (cond t (Some entry) (entry_at store stores))) ≡ false
+    by true h rest = absurd cc
+    by false h rest = rest h
+
+both_false : (a b : Bool) → b ≡ false → a && b ≡ false
+both_false true b h = h
+both_false false b h = refl
+
+deleted_one : (r : Request) (e : Entry) (entries : List Entry) → part_by r entries (TermPart entries) → (TermPart entries → Deleted entries) → (store : ℕ)
+    → is_some (record_at store (records_by r e.reply (heard_of e) (part_of entries) (records_of entries))) ≡ false → deletes store r (heard_of e) (part_of entries) || is_deleted store entries ≡ false
+deleted_one (ask.Term term moment) e entries part rest store none = ap (λ (es : List Entry). is_deleted store es) part
+deleted_one (ask.Hello at moment address labels) e entries part rest store none = rest part store (hello_none e.reply at moment address labels (records_of entries) store none)
+deleted_one ask.Retire e entries part rest store none = rest part store none
+deleted_one (ask.Alive at moment) e entries part rest store none = rest part store none
+deleted_one (ask.Beat at moment beat) e entries part rest store none = rest part store none
+deleted_one (ask.Rule moment json) e entries part rest store none = rest part store none
+deleted_one (ask.Unrule moment group id) e entries part rest store none = rest part store none
+deleted_one (ask.Check moment region) e entries part rest store none = rest part store none
+deleted_one (ask.Schedule moment) e entries part rest store none = rest part store none
+deleted_one (ask.Patrol moment workers) e entries part rest store none = rest part store (sym (known_patrol entries moment store e.answers) ∙ none)
+deleted_one (ask.Ctl moment words) e entries part rest store none =
+    either_false _ (is_deleted store entries) (both_false (names_store store (command_told words)) _ (no_offline (deed_of (ctl_of (part_of entries) moment words) (part_of entries) moment e.answers).stores store none))
+    (rest part store (sym (known_ctl entries moment store words e.answers) ∙ none))
+
+deleted_all : (entries : List Entry) → TermPart entries → Deleted entries
+deleted_all [] part = absurd part
+deleted_all (e ∷ entries) part = deleted_one e.request e entries part (λ p. deleted_all entries p)
+
 state_hello : (entries : List Entry) (at moment : ℕ) (address : List ℕ) (labels : List Label) (p : Reply) → TermPart entries → InState entries (handed_to entries) → (store : ℕ) (rec : StoreRec)
-    → record_at store (greeted_by p (greeting at address labels) (records_of entries)) ≡ Some rec → rec.state ≡ buried_state (is_entombed store entries) (state_or_up (record_at store (stores_told (handed_to entries))))
+    → record_at store (greeted_by p (greeting at address labels) (records_of entries)) ≡ Some rec → rec.state ≡ state_now (is_entombed store entries) (is_deleted store entries) (record_at store (stores_told (handed_to entries)))
 state_hello entries at moment address labels replies.StorePut part before store rec found = by (nat_eq at store) refl
   where
-    by : (t : Bool) → nat_eq at store ≡ t → rec.state ≡ buried_state (is_entombed store entries) (state_or_up (record_at store (stores_told (handed_to entries))))
+    by : (t : Bool) → nat_eq at store ≡ t → rec.state ≡ state_now (is_entombed store entries) (is_deleted store entries) (record_at store (stores_told (handed_to entries)))
     by true is =
         let id : at ≡ store = same_id at store is in
         let rec_is : kept_state (record_at at (records_of entries)) (greeting at address labels) ≡ rec = some_same _ rec (sym (hello_own (greeting at address labels) (records_of entries) store id) ∙ found) in
-        let own = state_own (record_at at (records_of entries)) (record_at at (stores_told (handed_to entries))) (greeting at address labels) (is_entombed at entries) refl (λ none. or_none (list_any (is_hello at) entries) _ (sym none ∙ known_all entries part at))
-        (entombed_all entries part at) (before at) in
-        sym (ap (λ (x : StoreRec). x.state) rec_is) ∙ own ∙ ap (λ n. buried_state (is_entombed n entries) (state_or_up (record_at n (stores_told (handed_to entries))))) id
+        let own = state_own (record_at at (records_of entries)) (record_at at (stores_told (handed_to entries))) (greeting at address labels) (is_entombed at entries) (is_deleted at entries) refl (λ none. or_none (list_any (is_hello at) entries) _ (sym none ∙ known_all entries part at))
+        (entombed_all entries part at) (deleted_all entries part at) (before at) in
+        sym (ap (λ (x : StoreRec). x.state) rec_is) ∙ own ∙ ap (λ n. state_now (is_entombed n entries) (is_deleted n entries) (record_at n (stores_told (handed_to entries)))) id
     by false is = before store rec (sym (hello_other (greeting at address labels) (records_of entries) store (other_id at store is)) ∙ found)
 state_hello entries at moment address labels p part before store rec found = before store rec found
 
@@ -373,21 +447,58 @@ buried_or Offline t before (inr is) = is
 
 state_patrol : (entries : List Entry) (moment : ℕ) (answers : List MetaAnswer) → InState entries (handed_to entries) → (store : ℕ) (rec : StoreRec)
     → record_at store (map (λ (entry : StoreEntry). entry.store) (deed_of (patrol_of (part_of entries) moment) (part_of entries) moment answers).stores) ≡ Some rec
-    → rec.state ≡ buried_state (has_tombstone (state_at store (deed_of (patrol_of (part_of entries) moment) (part_of entries) moment answers).stores) || is_entombed store entries) (state_or_up (record_at store (stores_told (handed_to entries))))
+    → rec.state ≡ state_now (has_tombstone (state_at store (deed_of (patrol_of (part_of entries) moment) (part_of entries) moment answers).stores) || is_entombed store entries) (is_deleted store entries) (record_at store (stores_told (handed_to entries)))
 state_patrol entries moment answers before store rec found =
-    let was = record_before entries store (records_of entries) _ rec (deed_buried entries moment answers) found in
+    let was = record_before Tombstone entries store (records_of entries) _ rec (deed_buried entries moment answers) found in
     let old = before store was.0 was.1 in
     let at : has_tombstone (state_at store (deed_of (patrol_of (part_of entries) moment) (part_of entries) moment answers).stores) ≡ is_tombstone rec.state = ap has_tombstone (state_found _ store rec found) in
-    let one : (rec.state ≡ Tombstone) ⊎ (rec.state ≡ buried_state (is_entombed store entries) (state_or_up (record_at store (stores_told (handed_to entries))))) =
+    let one : (rec.state ≡ Tombstone) ⊎ (rec.state ≡ state_now (is_entombed store entries) (is_deleted store entries) (record_at store (stores_told (handed_to entries)))) =
     elim was.4 [ inl same ↦ inr (ap (λ (r : StoreRec). r.state) same ∙ old) | inr tomb ↦ inl tomb ] in
-    buried_or rec.state (is_entombed store entries) (state_or_up (record_at store (stores_told (handed_to entries)))) one
-    ∙ ap (λ (b : Bool). buried_state (b || is_entombed store entries) (state_or_up (record_at store (stores_told (handed_to entries))))) (sym at)
+    buried_or rec.state (is_entombed store entries) (deleted_state (is_deleted store entries) (state_or_up (record_at store (stores_told (handed_to entries))))) one
+    ∙ ap (λ (b : Bool). state_now (b || is_entombed store entries) (is_deleted store entries) (record_at store (stores_told (handed_to entries)))) (sym at)
+
+-- the state once a command of pd-ctl left the store as it was
+same_state : (n : Bool) (state : StoreState) (t d : Bool) (before : StoreState) → state ≡ buried_state t (deleted_state d before) → state ≡ buried_state t (deleted_state (n && is_offline state || d) before)
+same_state false state t d before h = h
+same_state true Up t d before h = h
+same_state true Tombstone t d before h = h
+same_state true Offline false d before h = refl
+same_state true Offline true d before h = absurd cc
+
+-- once it deleted it
+gone_state : (state was : StoreState) (t d : Bool) (before : StoreState) → state ≡ Offline → was ≡ buried_state t (deleted_state d before) → is_tombstone was ≡ false → state ≡ buried_state t (deleted_state (is_offline state || d) before)
+gone_state state was true d before off is alive = absurd (let both : true ≡ false = sym (ap is_tombstone is) ∙ alive in cc)
+gone_state state was false d before off is alive = off ∙ ap (λ (s : StoreState). deleted_state (is_offline s || d) before) (sym off)
+
+some_state : (a b : StoreState) → Some a ≡ Some b → a ≡ b
+some_state a b h = cc
+
+state_ctl : (entries : List Entry) (moment : ℕ) (words : List ℕ) (answers : List MetaAnswer) → InState entries (handed_to entries) → (store : ℕ) (rec : StoreRec)
+    → record_at store (map (λ (entry : StoreEntry). entry.store) (deed_of (ctl_of (part_of entries) moment words) (part_of entries) moment answers).stores) ≡ Some rec
+    → rec.state ≡ state_now (is_entombed store entries) (names_store store (command_told words) && has_offline (state_at store (deed_of (ctl_of (part_of entries) moment words) (part_of entries) moment answers).stores) || is_deleted store entries) (record_at store (stores_told (handed_to entries)))
+state_ctl entries moment words answers before store rec found =
+    let was = record_before Offline entries store (records_of entries) _ rec (deed_deleted entries moment words answers) found in
+    let old = before store was.0 was.1 in
+    let at : state_at store (deed_of (ctl_of (part_of entries) moment words) (part_of entries) moment answers).stores ≡ Some rec.state = state_found _ store rec found in
+    let first : state_at store (part_of entries).stores ≡ Some was.0.state = ap (option_map (λ (e : StoreEntry). e.store.state)) (entry_map (store_of entries) (λ r. refl) store (records_of entries) ∙ ap (option_map (store_of entries)) was.1) in
+    by was.0 old at first (deed_left entries moment store words answers)
+    ∙ ap (λ (o : Option StoreState). state_now (is_entombed store entries) (names_store store (command_told words) && has_offline o || is_deleted store entries) (record_at store (stores_told (handed_to entries)))) (sym at)
+  where
+    by : (was : StoreRec) → was.state ≡ state_now (is_entombed store entries) (is_deleted store entries) (record_at store (stores_told (handed_to entries)))
+        → state_at store (deed_of (ctl_of (part_of entries) moment words) (part_of entries) moment answers).stores ≡ Some rec.state → state_at store (part_of entries).stores ≡ Some was.state
+        → Left store (command_told words) (part_of entries).stores (deed_of (ctl_of (part_of entries) moment words) (part_of entries) moment answers).stores
+        → rec.state ≡ state_now (is_entombed store entries) (names_store store (command_told words) && is_offline rec.state || is_deleted store entries) (record_at store (stores_told (handed_to entries)))
+    by was old at first (inl same) =
+        same_state (names_store store (command_told words)) rec.state (is_entombed store entries) (is_deleted store entries) (state_or_up (record_at store (stores_told (handed_to entries)))) (some_state rec.state was.state (sym at ∙ same ∙ first) ∙ old)
+    by was old at first (inr (named, off, alive)) =
+        gone_state rec.state was.state (is_entombed store entries) (is_deleted store entries) (state_or_up (record_at store (stores_told (handed_to entries)))) (some_state rec.state Offline (sym at ∙ off)) old (ap has_tombstone (sym first) ∙ alive)
+        ∙ ap (λ (n : Bool). state_now (is_entombed store entries) (n && is_offline rec.state || is_deleted store entries) (record_at store (stores_told (handed_to entries)))) (sym named)
 
 state_one : (r : Request) (e : Entry) (entries : List Entry) → part_by r entries (TermPart entries) → (TermPart entries → InState entries (handed_to entries)) → (store : ℕ) (rec : StoreRec)
     → record_at store (records_by r e.reply (heard_of e) (part_of entries) (records_of entries)) ≡ Some rec
-    → rec.state ≡ buried_state (entombs store r (heard_of e) (part_of entries) || is_entombed store entries) (state_or_up (record_at store (stores_told (begun_with r (handed_out e.answers) (handed_to entries)))))
+    → rec.state ≡ state_now (entombs store r (heard_of e) (part_of entries) || is_entombed store entries) (deletes store r (heard_of e) (part_of entries) || is_deleted store entries) (record_at store (stores_told (begun_with r (handed_out e.answers) (handed_to entries))))
 state_one (ask.Term term moment) e entries part rest store rec found =
-    ap state_or_up (sym found) ∙ ap (λ (es : List Entry). buried_state (is_entombed store es) (state_or_up (record_at store (stores_told (handed_out e.answers))))) (sym part)
+    ap state_or_up (sym found) ∙ ap (λ (es : List Entry). state_now (is_entombed store es) (is_deleted store es) (record_at store (stores_told (handed_out e.answers)))) (sym part)
 state_one (ask.Hello at moment address labels) e entries part rest store rec found = state_hello entries at moment address labels e.reply part (rest part) store rec found
 state_one ask.Retire e entries part rest store rec found = rest part store rec found
 state_one (ask.Alive at moment) e entries part rest store rec found = rest part store rec found
@@ -395,7 +506,9 @@ state_one (ask.Beat at moment beat) e entries part rest store rec found = rest p
 state_one (ask.Rule moment json) e entries part rest store rec found = rest part store rec found
 state_one (ask.Unrule moment group id) e entries part rest store rec found = rest part store rec found
 state_one (ask.Check moment region) e entries part rest store rec found = rest part store rec found
+state_one (ask.Schedule moment) e entries part rest store rec found = rest part store rec found
 state_one (ask.Patrol moment workers) e entries part rest store rec found = state_patrol entries moment e.answers (rest part) store rec found
+state_one (ask.Ctl moment words) e entries part rest store rec found = state_ctl entries moment words e.answers (rest part) store rec found
 
 state_all : (entries : List Entry) → TermPart entries → InState entries (handed_to entries)
 state_all [] part = absurd part
@@ -441,11 +554,11 @@ rise_told : (cells : List Cell) (recs : List StoreRec) → Rise recs → Rise (f
 rise_told [] recs rise = rise
 rise_told (cell ∷ cells) recs rise = rise_told cells (store_more (store_in cell) recs) (rise_more (store_in cell) recs rise)
 
-rise_ids : (es : List Entry) (recs : List StoreRec) (stores : List StoreEntry) → AreBuried (map (store_of es) recs) stores → map (λ (r : StoreRec). r.id) (map (λ (entry : StoreEntry). entry.store) stores) ≡ map (λ (r : StoreRec). r.id) recs
-rise_ids es [] [] h = refl
-rise_ids es [] (entry ∷ stores) h = absurd h
-rise_ids es (rec ∷ recs) [] h = absurd h
-rise_ids es (rec ∷ recs) (entry ∷ stores) h = λ i. id_is es rec entry h.0 i ∷ rise_ids es recs stores h.1 i
+rise_ids : (state : StoreState) (es : List Entry) (recs : List StoreRec) (stores : List StoreEntry) → AreRestated state (map (store_of es) recs) stores → map (λ (r : StoreRec). r.id) (map (λ (entry : StoreEntry). entry.store) stores) ≡ map (λ (r : StoreRec). r.id) recs
+rise_ids state es [] [] h = refl
+rise_ids state es [] (entry ∷ stores) h = absurd h
+rise_ids state es (rec ∷ recs) [] h = absurd h
+rise_ids state es (rec ∷ recs) (entry ∷ stores) h = λ i. id_is state es rec entry h.0 i ∷ rise_ids state es recs stores h.1 i
 
 id_at : (recs : List StoreRec) (i : ℕ) (d : StoreRec) (n : ℕ) → i < length recs → get_or (map (λ (r : StoreRec). r.id) recs) i n ≡ (get_or recs i d).id
 id_at [] i d n low = absurd (omega arith)
@@ -471,7 +584,10 @@ rise_one (ask.Hello at moment address labels) replies.StorePut known es recs is 
 rise_one (ask.Hello at moment address labels) p known es recs is rise = rise
 rise_one (ask.Patrol moment workers) p known es recs is rise =
     rise_by (map (λ (entry : StoreEntry). entry.store) (deed_of (patrol_of (part_of es) moment) (part_of es) moment known.answers).stores) recs
-    (rise_ids es (records_of es) _ (deed_buried es moment known.answers) ∙ ap (map (λ (r : StoreRec). r.id)) (sym is)) rise
+    (rise_ids Tombstone es (records_of es) _ (deed_buried es moment known.answers) ∙ ap (map (λ (r : StoreRec). r.id)) (sym is)) rise
+rise_one (ask.Ctl moment words) p known es recs is rise =
+    rise_by (map (λ (entry : StoreEntry). entry.store) (deed_of (ctl_of (part_of es) moment words) (part_of es) moment known.answers).stores) recs
+    (rise_ids Offline es (records_of es) _ (deed_deleted es moment words known.answers) ∙ ap (map (λ (r : StoreRec). r.id)) (sym is)) rise
 rise_one r p known es recs is rise = rise
 
 rise_all : (entries : List Entry) → Rise (records_of entries)
@@ -513,6 +629,6 @@ are_known entries part = record {
       subst (λ (e : StoreEntry). ToldOne entries store e.store) same (told_all entries part store rec at);
   state = λ store found is.
       let (rec, at, same) = some_mapped (record_at store (records_of entries)) (store_of entries) found (sym (entry_map (store_of entries) (λ r. refl) store (records_of entries)) ∙ is) in
-      subst (λ (e : StoreEntry). e.store.state ≡ buried_state (is_entombed store entries) (state_or_up (record_at store (stores_told (handed_to entries))))) same (state_all entries part store rec at);
+      subst (λ (e : StoreEntry). e.store.state ≡ state_now (is_entombed store entries) (is_deleted store entries) (record_at store (stores_told (handed_to entries)))) same (state_all entries part store rec at);
   rising = rising_of (store_of entries) (λ r. refl) (records_of entries) (rise_all entries);
 }

@@ -1,4 +1,4 @@
--- A check that is refused leaves what was planned, and so does a patrol, and the stores.
+-- A check that is refused leaves what was planned, and so do a patrol and a scheduler's turn, and the stores; a command that only reads leaves both.
 use Rattle.std.proofs.Common.{refl, ◌≡◌, ℕ, true, false, List, [], ◌∷◌, sym, ◌∙◌, Option, Some, None}
 use Rattle.std.specs.Prelude.{Result, Ok, Err}
 use Rattle.pd_types.specs.declared.region.Peer.{Peer}
@@ -15,7 +15,19 @@ use Rattle.rule_checker.specs.Told.{Told, Fits, Plans, Splits, Stuck}
 use Rattle.pd_state.specs.Adding.{Around, Drawn, Planning, Work, add_by, add_op, around_at, asks_id, draw, drawn, draw_saved, enter, entered, entered_with, free_id, pass_over, planning_of, saved_by}
 use Rattle.pd_state.specs.Asking.{Asking, Hearing, ask, done, hearing}
 use Rattle.pd_state.specs.Checking.{Burial, Deed, Round, bury_all, check_held, check_of, check_op, check_told, deed_of, first_round, idle, patrol, patrol_deed, patrol_of, planned, plans_in, sweep, told_in}
+use Rattle.pd_types.specs.declared.proposal.Proposal.{Proposal}
+use Rattle.sched_api.specs.declared.scheduler.Said.{Said}
+use Rattle.pd_ctl.specs.Reports.{only_reads}
+use Rattle.pd_ctl.specs.declared.command.Command.{Command}
+use Rattle.pd_ctl.specs.declared.command.Command.TheVariants as commands
+use Rattle.pd_ctl.specs.declared.fault.CtlFault.{CtlFault}
 use Rattle.pd_state.specs.Clusters.{refuses, refuses_adding}
+use Rattle.pd_state.specs.Ctl.{command_done, ctl_of, reads_by, reads_only, resigns, resigns_by, words_done}
+use Rattle.pd_state.specs.Reports.{command_told}
+use Rattle.pd_state.specs.Scheduling.{heed, proposed, schedule, schedule_of, scheduler}
+use Rattle.pd_state.specs.Wishing.{op_of, region_of, try_wished, wish_of, wished}
+use Rattle.pd_state.specs.declared.patrol.Planned.{Planned}
+use Rattle.pd_state.specs.declared.wishing.Asker.{Asker}
 use Rattle.pd_state.specs.Sends.{region_in}
 use Rattle.pd_state.specs.declared.adding.Adding.{Adding}
 use Rattle.pd_state.specs.declared.part.Part.{Part}
@@ -101,3 +113,52 @@ pub refused_patrol : (part : Part) (moment : ℕ) (answers : List MetaAnswer) �
 refused_patrol part moment answers =
     ends_or Deed (DeedLeaves (around_at part moment) (planning_of part)) (idle (around_at part moment) (planning_of part) replies.NotLeading) (patrol_of part moment (hearing part.known answers)) (λ no. (refl, refl))
     (patrol_leaves (around_at part moment) (planning_of part) (hearing part.known answers))
+
+-- a wish whose operator was tried
+try_leaves : (around : Around) (asker : Asker) (planning : Planning) (found : Result Planned Adding) (at : Hearing) → Ends Work (WorkLeaves planning) (try_wished around asker planning found at)
+try_leaves around asker planning (Ok planned) at =
+    add_leaves (refusal_of planning.operators (op_of asker planned) (Some planned.beat) planning.limits around.now) around (op_of asker planned) planned.beat planning at
+try_leaves around asker planning (Err why) at = λ no. refl
+
+answered_leaves : (around : Around) (planning : Planning) (name : List ℕ) (proposal : Option Proposal) (at : Hearing) → Ends Deed (DeedLeaves around planning) (heed around planning name proposal at)
+answered_leaves around planning name None at = λ no. (refl, refl)
+answered_leaves around planning name (Some proposal) at =
+    ends_on Work Deed (WorkLeaves planning) (DeedLeaves around planning) (λ work. done (proposed around name proposal work)) (try_wished around (scheduler name) planning (wished around (region_of proposal) (wish_of proposal)) at)
+    (try_leaves around (scheduler name) planning (wished around (region_of proposal) (wish_of proposal)) at) (λ work then h. λ no. (h no, refl))
+
+schedule_leaves : (around : Around) (planning : Planning) (said : List Said) (at : Hearing) → Ends Deed (DeedLeaves around planning) (schedule around planning said at)
+schedule_leaves around planning [] at = λ no. (refl, refl)
+schedule_leaves around planning (one ∷ more) at = answered_leaves around planning one.name one.proposal at
+
+pub refused_schedule : (part : Part) (moment : ℕ) (said : List Said) (answers : List MetaAnswer) → DeedLeaves (around_at part moment) (planning_of part) (deed_of (schedule_of part moment said) part moment answers)
+refused_schedule part moment said answers =
+    ends_or Deed (DeedLeaves (around_at part moment) (planning_of part)) (idle (around_at part moment) (planning_of part) replies.NotLeading) (schedule_of part moment said (hearing part.known answers)) (λ no. (refl, refl))
+    (schedule_leaves (around_at part moment) (planning_of part) said (hearing part.known answers))
+
+-- a command that only reads
+abbrev DeedStays : Around → Planning → Deed → Type 0
+DeedStays around planning deed = (deed.planning ≡ planning) × (deed.stores ≡ around.stores)
+
+command_stays : (around : Around) (planning : Planning) (command : Command) (at : Hearing) → only_reads command ≡ true → Ends Deed (DeedStays around planning) (command_done around planning command at)
+command_stays around planning (commands.StoreDelete id) at h = absurd cc
+command_stays around planning (commands.StoreLimit id rate kind) at h = absurd cc
+command_stays around planning (commands.OperatorAdd region wish) at h = absurd cc
+command_stays around planning (commands.OperatorRemove region) at h = absurd cc
+command_stays around planning command at h = (refl, refl)
+
+words_stay : (around : Around) (planning : Planning) (told : Result Command CtlFault) (at : Hearing) → reads_by told ≡ true → Ends Deed (DeedStays around planning) (words_done around planning told at)
+words_stay around planning (Ok command) at h = command_stays around planning command at h
+words_stay around planning (Err fault) at h = (refl, refl)
+
+pub reading_ctl : (part : Part) (moment : ℕ) (words : List ℕ) (answers : List MetaAnswer) → reads_only words ≡ true → DeedStays (around_at part moment) (planning_of part) (deed_of (ctl_of part moment words) part moment answers)
+reading_ctl part moment words answers h =
+    ends_or Deed (DeedStays (around_at part moment) (planning_of part)) (idle (around_at part moment) (planning_of part) replies.NotLeading) (ctl_of part moment words (hearing part.known answers)) (refl, refl)
+    (words_stay (around_at part moment) (planning_of part) (command_told words) (hearing part.known answers) h)
+
+-- it doesn't give the term up
+stays_by : (told : Result Command CtlFault) → reads_by told ≡ true → resigns_by told ≡ false
+stays_by (Ok commands.LeaderResign) h = absurd cc
+stays_by told h = refl
+
+pub reading_stays : (words : List ℕ) → reads_only words ≡ true → resigns words ≡ false
+reading_stays words h = stays_by (command_told words) h

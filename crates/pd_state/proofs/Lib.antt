@@ -7,6 +7,16 @@ pub mod CallLemmas
 pub mod Few
 pub mod Ends
 pub mod Buried
+pub mod Deleted
+pub mod Benched
+pub mod Alone
+pub mod Removals
+pub mod Turns
+pub mod Rates
+pub mod Whole
+pub mod Scheduled
+pub mod Commanded
+pub mod Obeyed
 pub mod Leaves
 pub mod Asking
 pub mod Walks
@@ -20,6 +30,7 @@ pub mod Refines
 pub mod Places
 pub mod Ranged
 pub mod Gates
+pub mod Reported
 pub mod Telling
 pub mod Lives
 pub mod KnownLemmas

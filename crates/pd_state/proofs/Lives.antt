@@ -27,9 +27,25 @@ use Rattle.op_control.proofs.LifeLemmas.{gone-by, moved-turned}
 use Rattle.op_control.proofs.TableLemmas.{get-insert}
 use Rattle.rule_checker.specs.Told.{Told, Fits, Plans, Splits, Stuck}
 use Rattle.pd_state.specs.Adding.{Around, Drawn, Planning, Work, add_by, add_op, around_at, asks_id, enter, entered, entered_with, free_id, planning_of, with_window}
-use Rattle.pd_state.specs.Asking.{Hearing, done, hearing}
+use Rattle.pd_state.specs.Asking.{Hearing, done, hearing, write}
 use Rattle.pd_state.specs.Checking.{Burial, Deed, Round, bury_all, check_held, check_of, check_op, check_told, deed_of, first_round, idle, is_busy, patrol, patrol_deed, patrol_of, planned, plans_in, round_after, sweep, told_in, visit}
+use Rattle.pd_types.specs.declared.proposal.Proposal.{Proposal}
+use Rattle.sched_api.specs.declared.scheduler.Said.{Said}
+use Rattle.store_limit.specs.declared.limits.LimitKind.{LimitKind}
+use Rattle.store_table.specs.Entries.{entry_at}
+use Rattle.pd_ctl.specs.declared.command.Command.{Command}
+use Rattle.pd_ctl.specs.declared.command.Command.TheVariants as commands
+use Rattle.pd_ctl.specs.declared.fault.CtlFault.{CtlFault}
+use Rattle.pd_state.specs.Reports.{command_told}
+use Rattle.pd_state.specs.Scheduling.{heed, proposed, schedule, schedule_of, scheduler}
+use Rattle.pd_state.specs.declared.wishing.Asker.{Asker}
+use Rattle.pd_types.specs.declared.store.StoreRec.{StoreRec}
+use Rattle.meta_store.specs.Stores.{store_bytes, store_key}
+use Rattle.meta_store.specs.declared.record.MetaVerdict.{MetaVerdict}
+use Rattle.meta_store.specs.declared.record.MetaVerdict.TheVariants as verdicts
+use Rattle.pd_state.specs.Ctl.{added_by_hand, admin, command_done, ctl_of, delete_by, delete_found, deleted_by, deletion, limit_found, remove_found, resigns, words_done}
 use Rattle.pd_state.specs.Heard.{heard_of}
+use Rattle.pd_state.specs.Wishing.{op_of, region_of, steps_in, try_wished, wish_of, wished}
 use Rattle.pd_state.specs.Lives.{AreLives, GoesOn, GoesWith, IsFurther, IsReplaced, Leads, LivesOn, Turn}
 use Rattle.pd_state.specs.Sends.{region_in}
 use Rattle.pd_state.specs.Since.{since, since_by}
@@ -272,6 +288,7 @@ RoundLives planning round = AreLives planning.operators round.planning.operators
 
 round_lives : (first : Planning) (round : Round) (work : Work) (came : Adding) → RoundLives first round → WorkLives round.planning work → RoundLives first (round_after round work came)
 round_lives first round work (adding.Added answer) h k = tables_then first.operators round.planning.operators work.planning.operators h k
+round_lives first round work (adding.Build fault) h k = h
 round_lives first round work (adding.Add fault) h k = h
 round_lives first round work (adding.OldTerm fence) h k = tables_then first.operators round.planning.operators work.planning.operators h k
 round_lives first round work (adding.Conflict found) h k = tables_then first.operators round.planning.operators work.planning.operators h k
@@ -301,6 +318,70 @@ patrolled_lives part moment answers =
     ends_or Deed (DeedLives (planning_of part)) (idle (around_at part moment) (planning_of part) replies.NotLeading) (patrol_of part moment (hearing part.known answers)) (table_same part.operators)
     (patrol_lives (around_at part moment) (planning_of part) (hearing part.known answers))
 
+-- what a wish leaves
+try_lives : (around : Around) (asker : Asker) (planning : Planning) (found : Result Planned Adding) (at : Hearing) → Ends Work (WorkLives planning) (try_wished around asker planning found at)
+try_lives around asker planning (Ok planned) at =
+    add_lives (refusal_of planning.operators (op_of asker planned) (Some planned.beat) planning.limits around.now) around (op_of asker planned) planned.beat planning at
+try_lives around asker planning (Err why) at = table_same planning.operators
+
+-- what a scheduler's turn leaves
+answer_lives : (around : Around) (planning : Planning) (name : List ℕ) (proposal : Option Proposal) (at : Hearing) → Ends Deed (DeedLives planning) (heed around planning name proposal at)
+answer_lives around planning name None at = table_same planning.operators
+answer_lives around planning name (Some proposal) at =
+    ends_on Work Deed (WorkLives planning) (DeedLives planning) (λ work. done (proposed around name proposal work)) (try_wished around (scheduler name) planning (wished around (region_of proposal) (wish_of proposal)) at)
+    (try_lives around (scheduler name) planning (wished around (region_of proposal) (wish_of proposal)) at) (λ work then h. h)
+
+schedule_lives : (around : Around) (planning : Planning) (said : List Said) (at : Hearing) → Ends Deed (DeedLives planning) (schedule around planning said at)
+schedule_lives around planning [] at = table_same planning.operators
+schedule_lives around planning (one ∷ more) at = answer_lives around planning one.name one.proposal at
+
+scheduled_lives : (part : Part) (moment : ℕ) (said : List Said) (answers : List MetaAnswer) → DeedLives (planning_of part) (deed_of (schedule_of part moment said) part moment answers)
+scheduled_lives part moment said answers =
+    ends_or Deed (DeedLives (planning_of part)) (idle (around_at part moment) (planning_of part) replies.NotLeading) (schedule_of part moment said (hearing part.known answers)) (table_same part.operators)
+    (schedule_lives (around_at part moment) (planning_of part) said (hearing part.known answers))
+
+-- what a command leaves
+verdict_lives : (around : Around) (planning : Planning) (id : ℕ) (verdict : MetaVerdict) → DeedLives planning (deleted_by around planning id verdict)
+verdict_lives around planning id (verdicts.Accepted revision) = table_same planning.operators
+verdict_lives around planning id (verdicts.OldTerm fence) = table_same planning.operators
+verdict_lives around planning id (verdicts.Conflict found) = table_same planning.operators
+verdict_lives around planning id verdicts.Limit = table_same planning.operators
+
+by_lives : (r : Result StoreRec Reply) (around : Around) (planning : Planning) (at : Hearing) → Ends Deed (DeedLives planning) (delete_by r around planning at)
+by_lives (Ok rec) around planning at =
+    ends_on MetaVerdict Deed (λ v. Unit {0}) (DeedLives planning) (λ verdict. done (deleted_by around planning rec.id verdict)) (write around.term (store_key rec.id) (store_bytes rec) at) (ends_any MetaVerdict _)
+    (λ verdict then u. verdict_lives around planning rec.id verdict)
+by_lives (Err reply) around planning at = table_same planning.operators
+
+delete_lives : (o : Option StoreEntry) (around : Around) (planning : Planning) (at : Hearing) → Ends Deed (DeedLives planning) (delete_found o around planning at)
+delete_lives o around planning at = by_lives (deletion o) around planning at
+
+limit_lives : (o : Option StoreEntry) (around : Around) (planning : Planning) (id rate : ℕ) (kind : LimitKind) (at : Hearing) → Ends Deed (DeedLives planning) (limit_found o around planning id rate kind at)
+limit_lives None around planning id rate kind at = table_same planning.operators
+limit_lives (Some entry) around planning id rate kind at = table_same planning.operators
+
+remove_lives : (o : Option Operator) (around : Around) (planning : Planning) (region : ℕ) (at : Hearing) → Ends Deed (DeedLives planning) (remove_found o around planning region at)
+remove_lives None around planning region at = table_same planning.operators
+remove_lives (Some op) around planning region at = canceled_lives planning.operators region
+
+command_lives : (around : Around) (planning : Planning) (command : Command) (at : Hearing) → Ends Deed (DeedLives planning) (command_done around planning command at)
+command_lives around planning (commands.StoreDelete id) at = delete_lives (entry_at id around.stores) around planning at
+command_lives around planning (commands.StoreLimit id rate kind) at = limit_lives (entry_at id around.stores) around planning id rate kind at
+command_lives around planning (commands.OperatorAdd region wish) at =
+    ends_on Work Deed (WorkLives planning) (DeedLives planning) (λ work. done (added_by_hand around (steps_in (wished around region wish)) work)) (try_wished around admin planning (wished around region wish) at)
+    (try_lives around admin planning (wished around region wish) at) (λ work then h. h)
+command_lives around planning (commands.OperatorRemove region) at = remove_lives (active_at planning.operators region) around planning region at
+command_lives around planning command at = table_same planning.operators
+
+words_lives : (around : Around) (planning : Planning) (told : Result Command CtlFault) (at : Hearing) → Ends Deed (DeedLives planning) (words_done around planning told at)
+words_lives around planning (Ok command) at = command_lives around planning command at
+words_lives around planning (Err fault) at = table_same planning.operators
+
+commanded_lives : (part : Part) (moment : ℕ) (words : List ℕ) (answers : List MetaAnswer) → DeedLives (planning_of part) (deed_of (ctl_of part moment words) part moment answers)
+commanded_lives part moment words answers =
+    ends_or Deed (DeedLives (planning_of part)) (idle (around_at part moment) (planning_of part) replies.NotLeading) (ctl_of part moment words (hearing part.known answers)) (table_same part.operators)
+    (words_lives (around_at part moment) (planning_of part) (command_told words) (hearing part.known answers))
+
 -- what an entry leaves
 hello_lives : (p : Reply) (store now : ℕ) (planning : Planning) → AreLives planning.operators (planned_hello p store now planning).operators
 hello_lives replies.StorePut store now planning = table_same planning.operators
@@ -318,6 +399,8 @@ planned_lives (ask.Hello store moment address labels) p heard part goes = hello_
 planned_lives (ask.Beat store moment beat) p heard part goes = beat_lives p beat (around_at part moment) (planning_of part)
 planned_lives (ask.Check moment region) p heard part goes = checked_lives part moment region heard.answers
 planned_lives (ask.Patrol moment workers) p heard part goes = patrolled_lives part moment heard.answers
+planned_lives (ask.Schedule moment) p heard part goes = scheduled_lives part moment heard.bench heard.answers
+planned_lives (ask.Ctl moment words) p heard part goes = commanded_lives part moment words heard.answers
 planned_lives ask.Retire p heard part goes = table_same part.operators
 planned_lives (ask.Alive store moment) p heard part goes = table_same part.operators
 planned_lives (ask.Rule moment json) p heard part goes = table_same part.operators
@@ -325,6 +408,10 @@ planned_lives (ask.Unrule moment group id) p heard part goes = table_same part.o
 
 some_part : (a b : Part) → Some a ≡ Some b → a ≡ b
 some_part a b h = cc
+
+stays_on : (t : Bool) (es : List Entry) (after : Part) → option_map part_of (cond t None (Some es)) ≡ Some after → Some (part_of es) ≡ Some after
+stays_on true es after is = absurd cc
+stays_on false es after is = is
 
 more_lives : (e : Entry) (es : List Entry) (r : Request) (after : Part) → GoesWith r → option_map part_of (since_by r e (Some es)) ≡ Some after → AreLives (part_of es).operators (part_of (e ∷ es)).operators → AreLives (part_of es).operators after.operators
 more_lives e es (ask.Term term moment) after goes is h = absurd goes
@@ -336,6 +423,8 @@ more_lives e es (ask.Rule moment json) after goes is h = subst (λ (p : Part). A
 more_lives e es (ask.Unrule moment group id) after goes is h = subst (λ (p : Part). AreLives (part_of es).operators p.operators) (some_part _ after is) h
 more_lives e es (ask.Check moment region) after goes is h = subst (λ (p : Part). AreLives (part_of es).operators p.operators) (some_part _ after is) h
 more_lives e es (ask.Patrol moment workers) after goes is h = subst (λ (p : Part). AreLives (part_of es).operators p.operators) (some_part _ after is) h
+more_lives e es (ask.Schedule moment) after goes is h = subst (λ (p : Part). AreLives (part_of es).operators p.operators) (some_part _ after is) h
+more_lives e es (ask.Ctl moment words) after goes is h = subst (λ (p : Part). AreLives (part_of es).operators p.operators) (some_part _ after (stays_on (resigns words) (e ∷ es) after is)) h
 
 since_lives : (s : Option (List Entry)) (e : Entry) → GoesWith e.request → (before after : Part) → option_map part_of s ≡ Some before → option_map part_of (since_by e.request e s) ≡ Some after → AreLives before.operators after.operators
 since_lives None e goes before after was is = absurd cc

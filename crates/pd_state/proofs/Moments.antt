@@ -1,5 +1,5 @@
 -- The clock, by the moments of the entries, and the ends of a term.
-use Rattle.std.proofs.Common.{refl, ◌≡◌, ◌≢◌, ℕ, suc, ◌≤◌, List, [], ◌∷◌, map, max, Option, subst, ap, sym, ◌∙◌, Some, None, arith, ◌⊎◌, inl, inr}
+use Rattle.std.proofs.Common.{refl, ◌≡◌, ◌≢◌, ℕ, Bool, true, cond, suc, ◌≤◌, List, [], ◌∷◌, map, max, Option, subst, ap, sym, ◌∙◌, Some, None, arith, ◌⊎◌, inl, inr}
 use Rattle.std.proofs.lemmas.List.Elements.{All-cons}
 use Rattle.std.specs.List.{All, Any}
 use Rattle.std.specs.FinMap.{get-empty}
@@ -24,11 +24,12 @@ use Rattle.pd_state.specs.Known.{BeginsAnew}
 use Rattle.pd_state.specs.Steps.{loaded_at}
 use Rattle.pd_state.specs.declared.part.Part.{Part}
 use Rattle.pd_state.specs.declared.reply.Reply.TheVariants as replies
+use Rattle.pd_state.specs.Ctl.{resigns}
 use Rattle.pd_state.specs.Since.{begun, since, since_by}
 use Rattle.pd_state.specs.State.{moment_of, clock_of, part_of, part_after}
 
 abbrev entry_of : Actor → List StepMsg → ℕ → Request → Heard → Reply → Entry
-entry_of actor sends line request heard reply = record { actor = actor; line = line; request = request; answers = heard.answers; sends = sends; reply = reply }
+entry_of actor sends line request heard reply = record { actor = actor; line = line; request = request; answers = heard.answers; bench = heard.bench; names = heard.names; sends = sends; reply = reply }
 
 pub clock_most : (entries : List Entry) → All (λ (entry : Entry). moment_of entry.request ≤ clock_of entries) entries
 clock_most [] = λ k d low. absurd (omega arith)
@@ -50,6 +51,10 @@ clock_one (e ∷ f ∷ entries) some = by (which (clock_of (f ∷ entries)) (mom
 
 pub retired : (past : List Entry) (entry : Entry) → entry.request ≡ ask.Retire → part_after (entry ∷ past) ≡ None
 retired past entry is = ap (λ (r : Request). option_map part_of (since_by r entry (since past))) is
+
+pub resigned : (past : List Entry) (entry : Entry) (moment : ℕ) (words : List ℕ) → resigns words ≡ true → entry.request ≡ ask.Ctl moment words → part_after (entry ∷ past) ≡ None
+resigned past entry moment words gives is =
+    ap (λ (r : Request). option_map part_of (since_by r entry (since past))) is ∙ ap (λ (t : Bool). option_map part_of (cond t None (option_map (λ (es : List Entry). entry ∷ es) (since past)))) gives
 
 begun_stores : (moment : ℕ) (recs : List StoreRec) → map (λ (entry : StoreEntry). entry.store) (map (loaded_at moment) recs) ≡ recs
 begun_stores moment [] = refl

@@ -27,6 +27,7 @@ ends_is A P point value then is h = subst (Ends A P) is h
 -- why there is no id
 abbrev IsWhy : Adding → Type 0
 IsWhy (adding.Added answer) = ⊥
+IsWhy (adding.Build fault) = ⊥
 IsWhy (adding.Add fault) = ⊥
 IsWhy (adding.OldTerm fence) = Unit {0}
 IsWhy (adding.Conflict found) = Unit {0}
@@ -142,6 +143,7 @@ lacks around op beat old window why t = record { kept = t.0; passed = t.1; none 
 why_comes : (around : Around) (op : NewOp) (beat : RegionBeat) (old : Planning) (window : Window) (why : Adding) → refusal_of old.operators op (Some beat) old.limits around.now ≡ None → IsWhy why → LacksId beat old (left_out (with_window old window) why)
     → Comes_of around op beat old (left_out (with_window old window) why)
 why_comes around op beat old window (adding.Added answer) passed is h = absurd is
+why_comes around op beat old window (adding.Build fault) passed is h = absurd is
 why_comes around op beat old window (adding.Add fault) passed is h = absurd is
 why_comes around op beat old window (adding.OldTerm fence) passed is h = (passed, h)
 why_comes around op beat old window (adding.Conflict found) passed is h = (passed, h)

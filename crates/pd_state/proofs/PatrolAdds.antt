@@ -236,6 +236,7 @@ module _ (around : Around) (plans : List Planned) (first : Round) (one : Planned
       → Comes came around (check_op one.beat one.steps) one.beat round.planning work → Visits around plans first.planning one round (round_after round work came)
   visit_work work (adding.Added answer) free on lives h =
       visit_joins (round_after round work (adding.Added answer)) free on lives (work_joins work (asks_id one.steps) h.1) refl
+  visit_work work (adding.Build fault) free on lives h = absurd h
   visit_work work (adding.Add fault) free on lives h =
       stays (at_limit round.planning fault so.lives (table_same round.planning.operators) h.0 (is_limit around one round.planning fault free h.0))
   visit_work work (adding.OldTerm fence) free on lives h = lacks_stops work on h.1

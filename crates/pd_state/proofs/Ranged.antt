@@ -1,5 +1,5 @@
 -- Accepted heartbeats passed their own tests, so what stands is their table.
-use Rattle.std.proofs.Common.{refl, ◌≡◌, ℕ, List, [], ◌∷◌, Option, Some, None, subst}
+use Rattle.std.proofs.Common.{refl, ◌≡◌, ℕ, Bool, true, false, cond, List, [], ◌∷◌, Option, Some, None, subst}
 use Rattle.std.proofs.lemmas.List.Elements.{All-nil, All-cons}
 use Rattle.std.specs.List.{All}
 use Rattle.std.specs.Option.{option_map}
@@ -17,6 +17,7 @@ use Rattle.heartbeat.specs.Intakes.{intake_of, intake_by}
 use Rattle.pd_state.specs.declared.entry.Entry.{Entry}
 use Rattle.pd_state.specs.declared.reply.Reply.{Reply}
 use Rattle.pd_state.specs.declared.reply.Reply.TheVariants as replies
+use Rattle.pd_state.specs.Ctl.{resigns}
 use Rattle.pd_state.specs.Since.{since_by, since}
 use Rattle.pd_state.specs.State.{accepted_by, beats_of, part_of}
 use Rattle.pd_state.specs.Heard.{heard_of}
@@ -40,30 +41,42 @@ AreRanged es = All HasRange (beats_of es)
 some_is : (es fs : List Entry) → Some es ≡ Some fs → AreRanged es → AreRanged fs
 some_is es fs h ranged = let e : es ≡ fs = cc in subst AreRanged e ranged
 
-ranged_more : (s : Option (List Entry)) (actor : Actor) (sends : List StepMsg) (line : ℕ) (r : Request) (known : Heard) (p : Reply) → ((es : List Entry) → s ≡ Some es → AreRanged es)
-    → p ≡ first_reply (option_map part_of s) r known → (fs : List Entry) → since_by r (entry_of actor sends line r known p) s ≡ Some fs → AreRanged fs
-ranged_more s actor sends line (ask.Term term moment) known (replies.Term t n m) ranged is fs h = some_is _ fs h (All-nil HasRange)
-ranged_more s actor sends line (ask.Term term moment) known p ranged is fs h = absurd cc
-ranged_more s actor sends line ask.Retire known p ranged is fs h = absurd cc
-ranged_more None actor sends line (ask.Hello store moment address labels) known p ranged is fs h = absurd cc
-ranged_more None actor sends line (ask.Alive store moment) known p ranged is fs h = absurd cc
-ranged_more None actor sends line (ask.Beat store moment beat) known p ranged is fs h = absurd cc
-ranged_more (Some es) actor sends line (ask.Hello store moment address labels) known p ranged is fs h = some_is _ fs h (ranged es refl)
-ranged_more (Some es) actor sends line (ask.Alive store moment) known p ranged is fs h = some_is _ fs h (ranged es refl)
-ranged_more (Some es) actor sends line (ask.Beat store moment beat) known p ranged is fs h =
+ranged_kept : (t : Bool) (es fs : List Entry) → cond t None (Some es) ≡ Some fs → AreRanged es → AreRanged fs
+ranged_kept true es fs h ranged = absurd cc
+ranged_kept false es fs h ranged = let e : es ≡ fs = cc in subst AreRanged e ranged
+
+ranged_none : (t : Bool) (fs : List Entry) → cond t None None ≡ Some fs → AreRanged fs
+ranged_none true fs h = absurd cc
+ranged_none false fs h = absurd cc
+
+ranged_more : (driver : ℕ) (s : Option (List Entry)) (actor : Actor) (sends : List StepMsg) (line : ℕ) (r : Request) (known : Heard) (p : Reply) → ((es : List Entry) → s ≡ Some es → AreRanged es)
+    → p ≡ first_reply driver (option_map part_of s) r known → (fs : List Entry) → since_by r (entry_of actor sends line r known p) s ≡ Some fs → AreRanged fs
+ranged_more driver s actor sends line (ask.Term term moment) known (replies.Term t n m) ranged is fs h = some_is _ fs h (All-nil HasRange)
+ranged_more driver s actor sends line (ask.Term term moment) known p ranged is fs h = absurd cc
+ranged_more driver s actor sends line ask.Retire known p ranged is fs h = absurd cc
+ranged_more driver None actor sends line (ask.Hello store moment address labels) known p ranged is fs h = absurd cc
+ranged_more driver None actor sends line (ask.Alive store moment) known p ranged is fs h = absurd cc
+ranged_more driver None actor sends line (ask.Beat store moment beat) known p ranged is fs h = absurd cc
+ranged_more driver (Some es) actor sends line (ask.Hello store moment address labels) known p ranged is fs h = some_is _ fs h (ranged es refl)
+ranged_more driver (Some es) actor sends line (ask.Alive store moment) known p ranged is fs h = some_is _ fs h (ranged es refl)
+ranged_more driver (Some es) actor sends line (ask.Beat store moment beat) known p ranged is fs h =
     some_is (entry_of actor sends line (ask.Beat store moment beat) known p ∷ es) fs h (ranged_beat (beats_of es) beat (beat_dispatch (part_of es) moment beat) p is (ranged es refl))
-ranged_more None actor sends line (ask.Rule moment json) known p ranged is fs h = absurd cc
-ranged_more None actor sends line (ask.Unrule moment group id) known p ranged is fs h = absurd cc
-ranged_more None actor sends line (ask.Check moment region) known p ranged is fs h = absurd cc
-ranged_more None actor sends line (ask.Patrol moment workers) known p ranged is fs h = absurd cc
-ranged_more (Some es) actor sends line (ask.Rule moment json) known p ranged is fs h = some_is _ fs h (ranged es refl)
-ranged_more (Some es) actor sends line (ask.Unrule moment group id) known p ranged is fs h = some_is _ fs h (ranged es refl)
-ranged_more (Some es) actor sends line (ask.Check moment region) known p ranged is fs h = some_is _ fs h (ranged es refl)
-ranged_more (Some es) actor sends line (ask.Patrol moment workers) known p ranged is fs h = some_is _ fs h (ranged es refl)
+ranged_more driver None actor sends line (ask.Rule moment json) known p ranged is fs h = absurd cc
+ranged_more driver None actor sends line (ask.Unrule moment group id) known p ranged is fs h = absurd cc
+ranged_more driver None actor sends line (ask.Check moment region) known p ranged is fs h = absurd cc
+ranged_more driver None actor sends line (ask.Patrol moment workers) known p ranged is fs h = absurd cc
+ranged_more driver None actor sends line (ask.Schedule moment) known p ranged is fs h = absurd cc
+ranged_more driver None actor sends line (ask.Ctl moment words) known p ranged is fs h = ranged_none (resigns words) fs h
+ranged_more driver (Some es) actor sends line (ask.Rule moment json) known p ranged is fs h = some_is _ fs h (ranged es refl)
+ranged_more driver (Some es) actor sends line (ask.Unrule moment group id) known p ranged is fs h = some_is _ fs h (ranged es refl)
+ranged_more driver (Some es) actor sends line (ask.Check moment region) known p ranged is fs h = some_is _ fs h (ranged es refl)
+ranged_more driver (Some es) actor sends line (ask.Patrol moment workers) known p ranged is fs h = some_is _ fs h (ranged es refl)
+ranged_more driver (Some es) actor sends line (ask.Schedule moment) known p ranged is fs h = some_is _ fs h (ranged es refl)
+ranged_more driver (Some es) actor sends line (ask.Ctl moment words) known p ranged is fs h = ranged_kept (resigns words) _ fs h (ranged es refl)
 
 ranged_after : (driver : ℕ) (past : List Entry) → IsLegal driver past → (es : List Entry) → since past ≡ Some es → AreRanged es
 ranged_after driver [] legal es h = absurd cc
-ranged_after driver (e ∷ past) legal es h = ranged_more (since past) e.actor e.sends e.line e.request (heard_of e) e.reply (ranged_after driver past legal.1) legal.0.reply_is es h
+ranged_after driver (e ∷ past) legal es h = ranged_more driver (since past) e.actor e.sends e.line e.request (heard_of e) e.reply (ranged_after driver past legal.1) legal.0.reply_is es h
 
 pub standing_is : (driver : ℕ) (past es : List Entry) → IsLegal driver past → since past ≡ Some es → IsTable (beats_of es) (part_of es).standing
 standing_is driver past es legal h = every_table (beats_of es) (ranged_after driver past legal es h)

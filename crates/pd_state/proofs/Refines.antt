@@ -30,10 +30,12 @@ use Rattle.meta_store.specs.Known.{kept_of}
 use Rattle.store_limit.specs.Limits.{known as known_limits}
 use Rattle.pd_state.specs.declared.heard.Heard.{Heard}
 use Rattle.pd_state.specs.Adding.{Around, Planning, around_at, planning_of, replanned}
+use Rattle.pd_state.specs.BenchHeard.{names_heard, turns_of}
 use Rattle.pd_state.specs.Calls.{next_call}
 use Rattle.pd_state.specs.Checking.{deed_of, patrol_of}
-use Rattle.pd_state.proofs.Buried.{AreRows, patrol_rows, patrol_unknown}
-use Rattle.pd_state.proofs.Leaves.{refused_check, refused_patrol}
+use Rattle.pd_state.specs.Ctl.{ctl_of, resigns}
+use Rattle.pd_state.proofs.Buried.{AreRows, ctl_rows, ctl_unknown, patrol_rows, patrol_unknown}
+use Rattle.pd_state.proofs.Leaves.{reading_ctl, reading_stays, refused_check, refused_patrol, refused_schedule}
 use Rattle.pd_state.specs.HandedOut.{record_at}
 use Rattle.pd_state.specs.Heard.{answers_of, heard_of, known_after, known_more}
 use Rattle.pd_state.specs.Replies.{alive_reply}
@@ -49,7 +51,7 @@ use Rattle.pd_state.proofs.Rows.{entry_map, placed_map, unknown_before, found_id
 
 -- an entry, by its parts
 abbrev pub entry_of : Actor → List StepMsg → ℕ → Request → Heard → Reply → Entry
-entry_of actor sends line request heard reply = record { actor = actor; line = line; request = request; answers = heard.answers; sends = sends; reply = reply }
+entry_of actor sends line request heard reply = record { actor = actor; line = line; request = request; answers = heard.answers; bench = heard.bench; names = heard.names; sends = sends; reply = reply }
 
 -- a store that isn't known sent no heartbeat
 abbrev pub Silent : List Entry → Type 0
@@ -239,6 +241,45 @@ after_patrol es actor sends line moment workers known p = λ i. record {
   window = (planned_by (ask.Patrol moment workers) p known (part_of es)).window;
 }
 
+after_schedule : (es : List Entry) (actor : Actor) (sends : List StepMsg) (line moment : ℕ) (known : Heard) (p : Reply)
+    → changed_part (part_of es) (ask.Schedule moment) p known ≡ part_of (entry_of actor sends line (ask.Schedule moment) known p ∷ es)
+after_schedule es actor sends line moment known p = λ i. record {
+  term = term_of es;
+  began = began_of es;
+  clock = max (clock_of es) moment;
+  stores = map (store_of es) (records_of es);
+  standing = table_of (beats_of es);
+  rules = rules_of es;
+  known = known_is known.answers (answers_of es) i;
+  operators = (planned_by (ask.Schedule moment) p known (part_of es)).operators;
+  limits = (planned_by (ask.Schedule moment) p known (part_of es)).limits;
+  window = (planned_by (ask.Schedule moment) p known (part_of es)).window;
+}
+
+after_ctl : (es : List Entry) (actor : Actor) (sends : List StepMsg) (line moment : ℕ) (words : List ℕ) (known : Heard) (p : Reply)
+    → changed_part (part_of es) (ask.Ctl moment words) p known ≡ part_of (entry_of actor sends line (ask.Ctl moment words) known p ∷ es)
+after_ctl es actor sends line moment words known p = λ i. record {
+  term = term_of es;
+  began = began_of es;
+  clock = max (clock_of es) moment;
+  stores = rows_again es (deed_of (ctl_of (part_of es) moment words) (part_of es) moment known.answers).stores (ctl_rows es moment words known.answers) i;
+  standing = table_of (beats_of es);
+  rules = rules_of es;
+  known = known_is known.answers (answers_of es) i;
+  operators = (planned_by (ask.Ctl moment words) p known (part_of es)).operators;
+  limits = (planned_by (ask.Ctl moment words) p known (part_of es)).limits;
+  window = (planned_by (ask.Ctl moment words) p known (part_of es)).window;
+}
+
+-- a command that gives the term up leaves none
+ctl_by : (t : Bool) (part : Part) (es : List Entry) → part ≡ part_of es → cond t None (Some part) ≡ option_map part_of (cond t None (Some es))
+ctl_by true part es is = refl
+ctl_by false part es is = ap Some is
+
+none_by : (t : Bool) → None ≡ option_map part_of (cond t None None)
+none_by true = refl
+none_by false = refl
+
 -- a Term's tables are those of its entry alone
 after_term : (actor : Actor) (sends : List StepMsg) (line term moment : ℕ) (known : Heard) (p : Reply) → new_part term moment known.answers ≡ part_of (entry_of actor sends line (ask.Term term moment) known p ∷ [])
 after_term actor sends line term moment known p = λ i. record {
@@ -278,15 +319,33 @@ refines_by None actor sends line (ask.Rule moment json) known p silent = refl
 refines_by None actor sends line (ask.Unrule moment group id) known p silent = refl
 refines_by None actor sends line (ask.Check moment region) known p silent = refl
 refines_by None actor sends line (ask.Patrol moment workers) known p silent = refl
+refines_by None actor sends line (ask.Schedule moment) known p silent = refl
+refines_by None actor sends line (ask.Ctl moment words) known p silent = none_by (resigns words)
 refines_by (Some es) actor sends line (ask.Rule moment json) known p silent = ap Some (after_rule es actor sends line moment json known p)
 refines_by (Some es) actor sends line (ask.Unrule moment group id) known p silent = ap Some (after_unrule es actor sends line moment group id known p)
 refines_by (Some es) actor sends line (ask.Check moment region) known p silent = ap Some (after_check es actor sends line moment region known p)
 refines_by (Some es) actor sends line (ask.Patrol moment workers) known p silent = ap Some (after_patrol es actor sends line moment workers known p)
+refines_by (Some es) actor sends line (ask.Schedule moment) known p silent = ap Some (after_schedule es actor sends line moment known p)
+refines_by (Some es) actor sends line (ask.Ctl moment words) known p silent =
+    ctl_by (resigns words) (changed_part (part_of es) (ask.Ctl moment words) p known) (entry_of actor sends line (ask.Ctl moment words) known p ∷ es) (after_ctl es actor sends line moment words known p)
 
 -- silence, over one entry more
 silent_patrol : (es : List Entry) (moment : ℕ) (known : Heard) → Silent es → (store : ℕ)
     → record_at store (map (λ (entry : StoreEntry). entry.store) (deed_of (patrol_of (part_of es) moment) (part_of es) moment known.answers).stores) ≡ None → heartbeat es store ≡ None
 silent_patrol es moment known silent store none = silent store (patrol_unknown es moment store known.answers none)
+
+silent_ctl : (es : List Entry) (moment : ℕ) (words : List ℕ) (known : Heard) → Silent es → (store : ℕ)
+    → record_at store (map (λ (entry : StoreEntry). entry.store) (deed_of (ctl_of (part_of es) moment words) (part_of es) moment known.answers).stores) ≡ None → heartbeat es store ≡ None
+silent_ctl es moment words known silent store none = silent store (ctl_unknown es moment store words known.answers none)
+
+-- of a command that may give the term up
+silent_kept : (t : Bool) (es fs : List Entry) → cond t None (Some es) ≡ Some fs → Silent es → Silent fs
+silent_kept true es fs h silent = absurd cc
+silent_kept false es fs h silent = let e : es ≡ fs = cc in subst Silent e silent
+
+silent_none : (t : Bool) (fs : List Entry) → cond t None None ≡ Some fs → Silent fs
+silent_none true fs h = absurd cc
+silent_none false fs h = absurd cc
 
 silent_hello : (es : List Entry) (actor : Actor) (sends : List StepMsg) (line store moment : ℕ) (address : List ℕ) (labels : List Label) (known : Heard) (p : Reply) → Silent es → Silent (hello_of actor sends line store moment address labels known p ∷ es)
 silent_hello es actor sends line store moment address labels known replies.StorePut silent = λ other k.
@@ -317,29 +376,33 @@ silent_alive es actor sends line store moment known p is silent = silent
 some_is : (es fs : List Entry) → Some es ≡ Some fs → Silent es → Silent fs
 some_is es fs h silent = let e : es ≡ fs = cc in subst Silent e silent
 
-silent_more : (s : Option (List Entry)) (actor : Actor) (sends : List StepMsg) (line : ℕ) (r : Request) (known : Heard) (p : Reply) → ((es : List Entry) → s ≡ Some es → Silent es)
-    → p ≡ first_reply (option_map part_of s) r known → (fs : List Entry) → since_by r (entry_of actor sends line r known p) s ≡ Some fs → Silent fs
-silent_more s actor sends line (ask.Term term moment) known (replies.Term t n m) silent is fs h = some_is _ fs h (λ store k. refl)
-silent_more s actor sends line (ask.Term term moment) known p silent is fs h = absurd cc
-silent_more s actor sends line ask.Retire known p silent is fs h = absurd cc
-silent_more None actor sends line (ask.Hello store moment address labels) known p silent is fs h = absurd cc
-silent_more None actor sends line (ask.Alive store moment) known p silent is fs h = absurd cc
-silent_more None actor sends line (ask.Beat store moment beat) known p silent is fs h = absurd cc
-silent_more (Some es) actor sends line (ask.Hello store moment address labels) known p silent is fs h = some_is _ fs h (silent_hello es actor sends line store moment address labels known p (silent es refl))
-silent_more (Some es) actor sends line (ask.Alive store moment) known p silent is fs h = some_is _ fs h (silent_alive es actor sends line store moment known p is (silent es refl))
-silent_more (Some es) actor sends line (ask.Beat store moment beat) known p silent is fs h = some_is _ fs h (silent es refl)
-silent_more None actor sends line (ask.Rule moment json) known p silent is fs h = absurd cc
-silent_more None actor sends line (ask.Unrule moment group id) known p silent is fs h = absurd cc
-silent_more None actor sends line (ask.Check moment region) known p silent is fs h = absurd cc
-silent_more None actor sends line (ask.Patrol moment workers) known p silent is fs h = absurd cc
-silent_more (Some es) actor sends line (ask.Rule moment json) known p silent is fs h = some_is _ fs h (silent es refl)
-silent_more (Some es) actor sends line (ask.Unrule moment group id) known p silent is fs h = some_is _ fs h (silent es refl)
-silent_more (Some es) actor sends line (ask.Check moment region) known p silent is fs h = some_is _ fs h (silent es refl)
-silent_more (Some es) actor sends line (ask.Patrol moment workers) known p silent is fs h = some_is _ fs h (silent_patrol es moment known (silent es refl))
+silent_more : (driver : ℕ) (s : Option (List Entry)) (actor : Actor) (sends : List StepMsg) (line : ℕ) (r : Request) (known : Heard) (p : Reply) → ((es : List Entry) → s ≡ Some es → Silent es)
+    → p ≡ first_reply driver (option_map part_of s) r known → (fs : List Entry) → since_by r (entry_of actor sends line r known p) s ≡ Some fs → Silent fs
+silent_more driver s actor sends line (ask.Term term moment) known (replies.Term t n m) silent is fs h = some_is _ fs h (λ store k. refl)
+silent_more driver s actor sends line (ask.Term term moment) known p silent is fs h = absurd cc
+silent_more driver s actor sends line ask.Retire known p silent is fs h = absurd cc
+silent_more driver None actor sends line (ask.Hello store moment address labels) known p silent is fs h = absurd cc
+silent_more driver None actor sends line (ask.Alive store moment) known p silent is fs h = absurd cc
+silent_more driver None actor sends line (ask.Beat store moment beat) known p silent is fs h = absurd cc
+silent_more driver (Some es) actor sends line (ask.Hello store moment address labels) known p silent is fs h = some_is _ fs h (silent_hello es actor sends line store moment address labels known p (silent es refl))
+silent_more driver (Some es) actor sends line (ask.Alive store moment) known p silent is fs h = some_is _ fs h (silent_alive es actor sends line store moment known p is (silent es refl))
+silent_more driver (Some es) actor sends line (ask.Beat store moment beat) known p silent is fs h = some_is _ fs h (silent es refl)
+silent_more driver None actor sends line (ask.Rule moment json) known p silent is fs h = absurd cc
+silent_more driver None actor sends line (ask.Unrule moment group id) known p silent is fs h = absurd cc
+silent_more driver None actor sends line (ask.Check moment region) known p silent is fs h = absurd cc
+silent_more driver None actor sends line (ask.Patrol moment workers) known p silent is fs h = absurd cc
+silent_more driver None actor sends line (ask.Schedule moment) known p silent is fs h = absurd cc
+silent_more driver None actor sends line (ask.Ctl moment words) known p silent is fs h = silent_none (resigns words) fs h
+silent_more driver (Some es) actor sends line (ask.Rule moment json) known p silent is fs h = some_is _ fs h (silent es refl)
+silent_more driver (Some es) actor sends line (ask.Unrule moment group id) known p silent is fs h = some_is _ fs h (silent es refl)
+silent_more driver (Some es) actor sends line (ask.Check moment region) known p silent is fs h = some_is _ fs h (silent es refl)
+silent_more driver (Some es) actor sends line (ask.Patrol moment workers) known p silent is fs h = some_is _ fs h (silent_patrol es moment known (silent es refl))
+silent_more driver (Some es) actor sends line (ask.Schedule moment) known p silent is fs h = some_is _ fs h (silent es refl)
+silent_more driver (Some es) actor sends line (ask.Ctl moment words) known p silent is fs h = silent_kept (resigns words) _ fs h (silent_ctl es moment words known (silent es refl))
 
 pub silent_after : (driver : ℕ) (past : List Entry) → IsLegal driver past → (es : List Entry) → since past ≡ Some es → Silent es
 silent_after driver [] legal es h = absurd cc
-silent_after driver (e ∷ past) legal es h = silent_more (since past) e.actor e.sends e.line e.request (heard_of e) e.reply (silent_after driver past legal.1) legal.0.reply_is es h
+silent_after driver (e ∷ past) legal es h = silent_more driver (since past) e.actor e.sends e.line e.request (heard_of e) e.reply (silent_after driver past legal.1) legal.0.reply_is es h
 
 pub refines : (driver : ℕ) (past : List Entry) (e : Entry) → IsLegal driver past → stepped (part_after past) e.request e.reply (heard_of e) ≡ part_after (e ∷ past)
 refines driver past e legal = refines_by (since past) e.actor e.sends e.line e.request (heard_of e) e.reply (silent_after driver past legal)
@@ -376,14 +439,14 @@ no_planned p beat around planning h = refl
 abbrev pub told_raised : Request → List MetaAnswer → Part → Part
 told_raised request answers part = record part { clock = max part.clock (moment_of request); known = known_after answers part.known }
 
-leaves_by : (old : Option Part) (r : Request) (known : Heard) (p : Reply) → p ≡ first_reply old r known → refused_by r p ≡ true → stepped old r p known ≡ option_map (told_raised r known.answers) old
-leaves_by old (ask.Term term moment) known p is h = absurd cc
-leaves_by None ask.Retire known p is h = refl
-leaves_by (Some part) ask.Retire known p is h = absurd (let both : refuses replies.Retired ≡ true = subst (λ (q : Reply). refuses q ≡ true) is h in cc)
-leaves_by None (ask.Hello store moment address labels) known p is h = refl
-leaves_by None (ask.Alive store moment) known p is h = refl
-leaves_by None (ask.Beat store moment beat) known p is h = refl
-leaves_by (Some part) (ask.Hello store moment address labels) known p is h = λ i. Some (record part {
+leaves_by : (driver : ℕ) (old : Option Part) (r : Request) (known : Heard) (p : Reply) → p ≡ first_reply driver old r known → refused_by r p ≡ true → stepped old r p known ≡ option_map (told_raised r known.answers) old
+leaves_by driver old (ask.Term term moment) known p is h = absurd cc
+leaves_by driver None ask.Retire known p is h = refl
+leaves_by driver (Some part) ask.Retire known p is h = absurd (let both : refuses replies.Retired ≡ true = subst (λ (q : Reply). refuses q ≡ true) is h in cc)
+leaves_by driver None (ask.Hello store moment address labels) known p is h = refl
+leaves_by driver None (ask.Alive store moment) known p is h = refl
+leaves_by driver None (ask.Beat store moment beat) known p is h = refl
+leaves_by driver (Some part) (ask.Hello store moment address labels) known p is h = λ i. Some (record part {
   clock = max part.clock moment;
   known = known_after known.answers part.known;
   stores = no_put p (greeted (entry_at (kept_state (option_map (λ (entry : StoreEntry). entry.store) (entry_at store part.stores)) (greeting store address labels)).id part.stores) (kept_state (option_map (λ (entry : StoreEntry). entry.store) (entry_at store part.stores)) (greeting store address labels)) part.began moment) part.stores h i;
@@ -391,9 +454,9 @@ leaves_by (Some part) (ask.Hello store moment address labels) known p is h = λ 
   limits = (no_hello p store (max part.clock moment) (planning_of part) h i).limits;
   window = (no_hello p store (max part.clock moment) (planning_of part) h i).window;
 })
-leaves_by (Some part) (ask.Alive store moment) known p is h =
+leaves_by driver (Some part) (ask.Alive store moment) known p is h =
     ap (λ (es : List StoreEntry). Some (record part { clock = max part.clock moment; known = known_after known.answers part.known; stores = es })) (no_heard p store moment part.stores h)
-leaves_by (Some part) (ask.Beat store moment beat) known p is h = λ i. Some (record part {
+leaves_by driver (Some part) (ask.Beat store moment beat) known p is h = λ i. Some (record part {
   clock = max part.clock moment;
   known = known_after known.answers part.known;
   standing = no_beat p beat part.standing h i;
@@ -401,30 +464,42 @@ leaves_by (Some part) (ask.Beat store moment beat) known p is h = λ i. Some (re
   limits = (no_planned p beat (around_at part moment) (planning_of part) h i).limits;
   window = (no_planned p beat (around_at part moment) (planning_of part) h i).window;
 })
-leaves_by None (ask.Check moment region) known p is h = refl
-leaves_by (Some part) (ask.Check moment region) known p is h =
+leaves_by driver None (ask.Check moment region) known p is h = refl
+leaves_by driver (Some part) (ask.Check moment region) known p is h =
     let same = refused_check part moment region known.answers (subst (λ (q : Reply). refuses q ≡ true) is h) in
     ap (λ (planning : Planning). Some (replanned (record part { clock = max part.clock moment }) planning (known_after known.answers part.known))) same.0
-leaves_by None (ask.Patrol moment workers) known p is h = refl
-leaves_by (Some part) (ask.Patrol moment workers) known p is h = λ i.
+leaves_by driver None (ask.Patrol moment workers) known p is h = refl
+leaves_by driver None (ask.Schedule moment) known p is h = refl
+leaves_by driver None (ask.Ctl moment words) known p is h = refl
+leaves_by driver (Some part) (ask.Patrol moment workers) known p is h = λ i.
     let same = refused_patrol part moment known.answers (subst (λ (q : Reply). refuses q ≡ true) is h) in
     Some (replanned (record part { clock = max part.clock moment; stores = same.1 i }) (same.0 i) (known_after known.answers part.known))
-leaves_by None (ask.Rule moment json) known p is h = refl
-leaves_by None (ask.Unrule moment group id) known p is h = refl
-leaves_by (Some part) (ask.Rule moment json) known p is h =
+leaves_by driver (Some part) (ask.Schedule moment) known p is h =
+    let same = refused_schedule part moment known.bench known.answers (subst (λ (q : Reply). refuses q ≡ true) is h) in
+    ap (λ (planning : Planning). Some (replanned (record part { clock = max part.clock moment }) planning (known_after known.answers part.known))) same.0
+leaves_by driver (Some part) (ask.Ctl moment words) known p is h =
+    let same = reading_ctl part moment words known.answers h in
+    ap (λ (t : Bool). cond t None (Some (changed_part part (ask.Ctl moment words) p known))) (reading_stays words h)
+    ∙ (λ i. Some (replanned (record part { clock = max part.clock moment; stores = same.1 i }) (same.0 i) (known_after known.answers part.known)))
+leaves_by driver None (ask.Rule moment json) known p is h = refl
+leaves_by driver None (ask.Unrule moment group id) known p is h = refl
+leaves_by driver (Some part) (ask.Rule moment json) known p is h =
     ap (λ (rules : List Rule). Some (record part { clock = max part.clock moment; known = known_after known.answers part.known; rules = rules })) (no_set p (rule_told json) part.rules h)
-leaves_by (Some part) (ask.Unrule moment group id) known p is h =
+leaves_by driver (Some part) (ask.Unrule moment group id) known p is h =
     ap (λ (rules : List Rule). Some (record part { clock = max part.clock moment; known = known_after known.answers part.known; rules = rules })) (no_removal p group id part.rules h)
 
 -- the journal that serve leaves
 pub served : (driver : ℕ) (entries after : List Entry) (e : Entry) (old new : Option Part) → after ≡ entries ++ e ∷ [] → IsLegal driver (reverse entries) → old ≡ part_after (reverse entries)
-    → e.reply ≡ first_reply old e.request (heard_of e) → AreAsked (next_call old e.request) [] e.answers → new ≡ stepped old e.request e.reply (heard_of e)
+    → e.reply ≡ first_reply driver old e.request (heard_of e) → AreAsked (next_call old e.request e.bench) [] e.answers → new ≡ stepped old e.request e.reply (heard_of e)
+    → length e.bench ≡ turns_of old e.request e.names → e.names ≡ names_heard e.request e.names
     → e.sends ≡ map (message driver (term_in old) (length (reverse entries) + 1)) (sents_by old e.request e.reply (heard_of e))
     → (IsLegal driver (reverse after) × (new ≡ part_after (reverse after))) × IsLegalAfter driver (reverse entries) e
-served driver entries after e old new is legal holds reply_is asked steps sends =
+served driver entries after e old new is legal holds reply_is asked steps turns names sends =
     let here : IsLegalAfter driver (reverse entries) e = record {
-      reply_is = reply_is ∙ ap (λ (o : Option Part). first_reply o e.request (heard_of e)) holds;
-      asked = subst (λ (o : Option Part). AreAsked (next_call o e.request) [] e.answers) holds asked;
+      reply_is = reply_is ∙ ap (λ (o : Option Part). first_reply driver o e.request (heard_of e)) holds;
+      asked = subst (λ (o : Option Part). AreAsked (next_call o e.request e.bench) [] e.answers) holds asked;
+      turns_are = subst (λ (o : Option Part). length e.bench ≡ turns_of o e.request e.names) holds turns;
+      names_are = names;
       sends_are = subst (λ (o : Option Part). e.sends ≡ map (message driver (term_in o) (length (reverse entries) + 1)) (sents_by o e.request e.reply (heard_of e))) holds sends;
     } in
     let back : reverse after ≡ e ∷ reverse entries = ap reverse is ∙ reverse-append entries (e ∷ []) in
@@ -440,8 +515,8 @@ sends_from driver entries old term entry sends sents all is term_is entry_is all
     ∙ ap (λ (t : ℕ). map (message driver t entry) all) term_is
     ∙ ap (λ (n : ℕ). map (message driver (term_in old) n) all) (entry_is ∙ ap (λ (n : ℕ). n + 1) (sym (length-reverse entries)))
 
-pub leaves : (old new : Option Part) (e : Entry) → e.reply ≡ first_reply old e.request (heard_of e) → new ≡ stepped old e.request e.reply (heard_of e) → is_refused e ≡ true → new ≡ with_clock e old
-leaves old new e reply_is steps h = steps ∙ leaves_by old e.request (heard_of e) e.reply reply_is h
+pub leaves : (driver : ℕ) (old new : Option Part) (e : Entry) → e.reply ≡ first_reply driver old e.request (heard_of e) → new ≡ stepped old e.request e.reply (heard_of e) → is_refused e ≡ true → new ≡ with_clock e old
+leaves driver old new e reply_is steps h = steps ∙ leaves_by driver old e.request (heard_of e) e.reply reply_is h
 
 -- a store whose record was written
 pub welcomed : (old mid new : Part) (store moment : ℕ) (address : List ℕ) (labels : List Label) (rec : StoreRec) (answer : MetaAnswer) (reply : Reply) (known : Heard) → mid ≡ record old { clock = max old.clock moment }

@@ -33,22 +33,22 @@ use Rattle.pd_state.proofs.RuleTexts.{means_told, refused_told}
 use Rattle.pd_state.proofs.RulesTold.{default_key}
 
 -- the answers are to the calls that what was told gives
-told_asked : (part : Part) (moment : ℕ) (json : List ℕ) (told : Result Rule RuleFault) (o : Option Reply) (answers : List MetaAnswer) → AreAsked (next_call (Some part) (ask.Rule moment json)) [] answers
+told_asked : (part : Part) (moment : ℕ) (json : List ℕ) (told : Result Rule RuleFault) (o : Option Reply) (answers : List MetaAnswer) → AreAsked (next_call (Some part) (ask.Rule moment json) []) [] answers
     → rule_told json ≡ told → rule_refusal told part.rules ≡ o → AreCalls (unless o (told_calls part told)) answers
 told_asked part moment json told o answers asked is refusal =
     asked_calls (unless o (told_calls part told)) answers
     (subst (λ (r : Option Reply). AreAsked (in_turn (unless r (told_calls part told))) [] answers) refusal (subst (λ (t : Result Rule RuleFault). AreAsked (in_turn (rule_calls part t)) [] answers) is asked))
 
-pub bad_calls : (part : Part) (moment : ℕ) (json : List ℕ) (fault : RuleFault) (answers : List MetaAnswer) → AreAsked (next_call (Some part) (ask.Rule moment json)) [] answers → RefusedText json fault → fault ≢ NoMemory → answers ≡ []
+pub bad_calls : (part : Part) (moment : ℕ) (json : List ℕ) (fault : RuleFault) (answers : List MetaAnswer) → AreAsked (next_call (Some part) (ask.Rule moment json) []) [] answers → RefusedText json fault → fault ≢ NoMemory → answers ≡ []
 bad_calls part moment json fault answers asked refused other =
     none_left answers (told_asked part moment json (Err fault) (Some (replies.BadRule fault)) answers asked (refused_told json fault refused other) refl)
 
-pub limit_calls : (part : Part) (moment : ℕ) (json : List ℕ) (rule : Rule) (answers : List MetaAnswer) → AreAsked (next_call (Some part) (ask.Rule moment json)) [] answers → Means json rule
+pub limit_calls : (part : Part) (moment : ℕ) (json : List ℕ) (rule : Rule) (answers : List MetaAnswer) → AreAsked (next_call (Some part) (ask.Rule moment json) []) [] answers → Means json rule
     → knows rule.group rule.id part.rules ≡ false → 64 ≤ length part.rules → answers ≡ []
 limit_calls part moment json rule answers asked means unknown many =
     none_left answers (told_asked part moment json (Ok rule) (Some replies.RuleLimit) answers asked (means_told json rule means) (ap set_refused (full_set rule part.rules unknown many)))
 
-put_calls : (part : Part) (moment : ℕ) (json : List ℕ) (rule : Rule) (first : Option MetaCall) (answers : List MetaAnswer) → AreAsked (next_call (Some part) (ask.Rule moment json)) [] answers → Means json rule
+put_calls : (part : Part) (moment : ℕ) (json : List ℕ) (rule : Rule) (first : Option MetaCall) (answers : List MetaAnswer) → AreAsked (next_call (Some part) (ask.Rule moment json) []) [] answers → Means json rule
     → set_refusal rule part.rules ≡ None → default_put part rule ≡ first → AreCalls (cons_option first (rule_put part rule ∷ [])) answers
 put_calls part moment json rule first answers asked means room is =
     subst (λ (o : Option MetaCall). AreCalls (cons_option o (rule_put part rule ∷ [])) answers) is
@@ -89,15 +89,15 @@ default_gone part rule none =
     ap (λ (o : Option Rule). cond (is_default rule || nat_lt 0 (rule_revision part (codes "pd") (codes "default"))) None (option_map (rule_put part) o)) (find_none is_default part.rules none)
     ∙ none_anyhow (is_default rule || nat_lt 0 (rule_revision part (codes "pd") (codes "default")))
 
-pub default_alone : (part : Part) (moment : ℕ) (json : List ℕ) (rule : Rule) (answers : List MetaAnswer) → AreAsked (next_call (Some part) (ask.Rule moment json)) [] answers → Means json rule
+pub default_alone : (part : Part) (moment : ℕ) (json : List ℕ) (rule : Rule) (answers : List MetaAnswer) → AreAsked (next_call (Some part) (ask.Rule moment json) []) [] answers → Means json rule
     → set_refusal rule part.rules ≡ None → rule.group ≡ codes "pd" → rule.id ≡ codes "default" → AreCalls (rule_put part rule ∷ []) answers
 default_alone part moment json rule answers asked means room group id = put_calls part moment json rule None answers asked means room (is_the_default part rule group id)
 
-pub stored_alone : (part : Part) (moment : ℕ) (json : List ℕ) (rule : Rule) (answers : List MetaAnswer) → AreAsked (next_call (Some part) (ask.Rule moment json)) [] answers → Means json rule
+pub stored_alone : (part : Part) (moment : ℕ) (json : List ℕ) (rule : Rule) (answers : List MetaAnswer) → AreAsked (next_call (Some part) (ask.Rule moment json) []) [] answers → Means json rule
     → set_refusal rule part.rules ≡ None → 0 < revision_in (cell_at (codes "rule/7064/64656661756c74") part.known) → AreCalls (rule_put part rule ∷ []) answers
 stored_alone part moment json rule answers asked means room stored = put_calls part moment json rule None answers asked means room (default_stored part rule stored)
 
-pub gone_alone : (part : Part) (moment : ℕ) (json : List ℕ) (rule : Rule) (answers : List MetaAnswer) → AreAsked (next_call (Some part) (ask.Rule moment json)) [] answers → Means json rule
+pub gone_alone : (part : Part) (moment : ℕ) (json : List ℕ) (rule : Rule) (answers : List MetaAnswer) → AreAsked (next_call (Some part) (ask.Rule moment json) []) [] answers → Means json rule
     → set_refusal rule part.rules ≡ None → knows (codes "pd") (codes "default") part.rules ≡ false → AreCalls (rule_put part rule ∷ []) answers
 gone_alone part moment json rule answers asked means room none = put_calls part moment json rule None answers asked means room (default_gone part rule none)
 
@@ -133,7 +133,7 @@ default_first part rule kept other unstored found =
     ap (λ (t : Bool). cond (t || nat_lt 0 (rule_revision part (codes "pd") (codes "default"))) None (option_map (rule_put part) (find is_default part.rules))) other
     ∙ ap (λ (n : ℕ). cond (nat_lt 0 n) None (option_map (rule_put part) (find is_default part.rules))) unstored ∙ ap (λ (o : Option Rule). option_map (rule_put part) o) found
 
-pub behind_default : (part : Part) (moment : ℕ) (json : List ℕ) (rule : Rule) (answers : List MetaAnswer) → AreAsked (next_call (Some part) (ask.Rule moment json)) [] answers → Means json rule
+pub behind_default : (part : Part) (moment : ℕ) (json : List ℕ) (rule : Rule) (answers : List MetaAnswer) → AreAsked (next_call (Some part) (ask.Rule moment json) []) [] answers → Means json rule
     → set_refusal rule part.rules ≡ None → (rule.group ≡ codes "pd" → rule.id ≡ codes "default" → ⊥) → revision_in (cell_at (codes "rule/7064/64656661756c74") part.known) ≡ 0
     → knows (codes "pd") (codes "default") part.rules ≡ true
     → Any (λ (kept : Rule). (kept.group ≡ codes "pd") × (kept.id ≡ codes "default") × AreCalls (calls.Put part.term (codes "rule/7064/64656661756c74") 0 (compact_text (rule_data kept)) ∷ rule_put part rule ∷ []) answers) part.rules
@@ -144,25 +144,25 @@ behind_default part moment json rule answers asked means room other unstored has
     (k, kept, low, at, (names.0, names.1, put_calls part moment json rule (Some (calls.Put part.term (codes "rule/7064/64656661756c74") 0 (compact_text (rule_data kept)))) answers asked means room first))
 
 -- removing a rule
-removal_asked : (part : Part) (moment : ℕ) (group id : List ℕ) (o : Option RemoveFault) (first : Option MetaCall) (answers : List MetaAnswer) → AreAsked (next_call (Some part) (ask.Unrule moment group id)) [] answers
+removal_asked : (part : Part) (moment : ℕ) (group id : List ℕ) (o : Option RemoveFault) (first : Option MetaCall) (answers : List MetaAnswer) → AreAsked (next_call (Some part) (ask.Unrule moment group id) []) [] answers
     → remove_refusal group id part.rules ≡ o → rule_delete part group id ≡ first → AreCalls (unless (removal_refused o) (cons_option first [])) answers
 removal_asked part moment group id o first answers asked is call =
     asked_calls (unless (removal_refused o) (cons_option first [])) answers
     (subst (λ (c : Option MetaCall). AreAsked (in_turn (unless (removal_refused o) (cons_option c []))) [] answers) call
     (subst (λ (f : Option RemoveFault). AreAsked (in_turn (unless (removal_refused f) (cons_option (rule_delete part group id) []))) [] answers) is asked))
 
-pub absent_calls : (part : Part) (moment : ℕ) (group id : List ℕ) (answers : List MetaAnswer) → AreAsked (next_call (Some part) (ask.Unrule moment group id)) [] answers → knows group id part.rules ≡ false → answers ≡ []
+pub absent_calls : (part : Part) (moment : ℕ) (group id : List ℕ) (answers : List MetaAnswer) → AreAsked (next_call (Some part) (ask.Unrule moment group id) []) [] answers → knows group id part.rules ≡ false → answers ≡ []
 absent_calls part moment group id answers asked unknown =
     none_left answers (removal_asked part moment group id (Some Absent) (rule_delete part group id) answers asked (absent_rule group id part.rules unknown) refl)
 
-pub last_calls : (part : Part) (moment : ℕ) (group id : List ℕ) (answers : List MetaAnswer) → AreAsked (next_call (Some part) (ask.Unrule moment group id)) [] answers → length part.rules ≡ 1 → answers ≡ []
+pub last_calls : (part : Part) (moment : ℕ) (group id : List ℕ) (answers : List MetaAnswer) → AreAsked (next_call (Some part) (ask.Unrule moment group id) []) [] answers → length part.rules ≡ 1 → answers ≡ []
 last_calls part moment group id answers asked one = by (cases_Bool (knows group id part.rules))
   where
     by : (knows group id part.rules ≡ true) ⊎ (knows group id part.rules ≡ false) → answers ≡ []
     by (inl known) = none_left answers (removal_asked part moment group id (Some LastRule) (rule_delete part group id) answers asked (last_rule group id part.rules known one) refl)
     by (inr unknown) = absent_calls part moment group id answers asked unknown
 
-pub delete_calls : (part : Part) (moment : ℕ) (group id : List ℕ) (answers : List MetaAnswer) → AreAsked (next_call (Some part) (ask.Unrule moment group id)) [] answers → knows group id part.rules ≡ true
+pub delete_calls : (part : Part) (moment : ℕ) (group id : List ℕ) (answers : List MetaAnswer) → AreAsked (next_call (Some part) (ask.Unrule moment group id) []) [] answers → knows group id part.rules ≡ true
     → length part.rules ≢ 1 → 0 < revision_in (cell_at (rule_key group id) part.known)
     → AreCalls (calls.Delete part.term (rule_key group id) (revision_in (cell_at (rule_key group id) part.known)) ∷ []) answers
 delete_calls part moment group id answers asked known more stored =
@@ -172,7 +172,7 @@ delete_calls part moment group id answers asked known more stored =
     here : nat_lt 0 (rule_revision part group id) ≡ true
     here = grind (arith, nat_tests)
 
-pub unstored_calls : (part : Part) (moment : ℕ) (group id : List ℕ) (answers : List MetaAnswer) → AreAsked (next_call (Some part) (ask.Unrule moment group id)) [] answers
+pub unstored_calls : (part : Part) (moment : ℕ) (group id : List ℕ) (answers : List MetaAnswer) → AreAsked (next_call (Some part) (ask.Unrule moment group id) []) [] answers
     → revision_in (cell_at (rule_key group id) part.known) ≡ 0 → answers ≡ []
 unstored_calls part moment group id answers asked unstored =
     none_left answers (subst (λ (l : List MetaCall). AreCalls l answers) (nothing (removal_refused (remove_refusal group id part.rules)))

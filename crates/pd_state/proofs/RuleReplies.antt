@@ -23,6 +23,7 @@ use Rattle.rule_set.specs.Changes.{knows, remove_refusal, set_refusal}
 use Rattle.rule_text.specs.declared.fault.RuleFault.{RuleFault}
 use Rattle.rule_text.specs.declared.fault.RuleFault.TheVariants.{NoMemory, NotJson}
 use Rattle.rule_text.specs.Tests.{Means, RefusedText, Test, first_failing, tests_of}
+use Rattle.pd_state.specs.Heard.{hears}
 use Rattle.pd_state.specs.declared.heard.Heard.{Heard}
 use Rattle.pd_state.specs.declared.part.Part.{Part}
 use Rattle.pd_state.specs.declared.reply.Reply.{Reply}
@@ -55,23 +56,23 @@ all_accepted done (answer ∷ answers) all =
     ap (λ (o : Option Reply). or_then o (by_answers done answers)) (not_refused answer.verdict (all zero answer (omega arith))) ∙ all_accepted done answers (λ k d low. all (suc k) d (omega arith))
 
 -- setting a rule
-pub bad_reply : (part : Part) (moment : ℕ) (json : List ℕ) (fault : RuleFault) (heard : Heard) → RefusedText json fault → fault ≢ NoMemory → first_reply (Some part) (ask.Rule moment json) heard ≡ replies.BadRule fault
-bad_reply part moment json fault heard refused other = ap (λ (told : Result Rule RuleFault). rule_reply told part.rules heard) (refused_told json fault refused other)
+pub bad_reply : (driver : ℕ) (part : Part) (moment : ℕ) (json : List ℕ) (fault : RuleFault) (heard : Heard) → RefusedText json fault → fault ≢ NoMemory → first_reply driver (Some part) (ask.Rule moment json) heard ≡ replies.BadRule fault
+bad_reply driver part moment json fault heard refused other = ap (λ (told : Result Rule RuleFault). rule_reply told part.rules heard) (refused_told json fault refused other)
 
-told_reply : (part : Part) (moment : ℕ) (json : List ℕ) (rule : Rule) (heard : Heard) (o : Option SetFault) → Means json rule → set_refusal rule part.rules ≡ o
-    → first_reply (Some part) (ask.Rule moment json) heard ≡ or_then (set_refused o) (by_answers replies.RulePut heard.answers)
-told_reply part moment json rule heard o means is =
+told_reply : (driver : ℕ) (part : Part) (moment : ℕ) (json : List ℕ) (rule : Rule) (heard : Heard) (o : Option SetFault) → Means json rule → set_refusal rule part.rules ≡ o
+    → first_reply driver (Some part) (ask.Rule moment json) heard ≡ or_then (set_refused o) (by_answers replies.RulePut heard.answers)
+told_reply driver part moment json rule heard o means is =
     ap (λ (told : Result Rule RuleFault). rule_reply told part.rules heard) (means_told json rule means) ∙ ap (λ (fault : Option SetFault). or_then (set_refused fault) (by_answers replies.RulePut heard.answers)) is
 
-pub put_reply : (part : Part) (moment : ℕ) (json : List ℕ) (rule : Rule) (heard : Heard) → Means json rule → set_refusal rule part.rules ≡ None → All (λ (answer : MetaAnswer). is_accepted answer.verdict ≡ true) heard.answers
-    → first_reply (Some part) (ask.Rule moment json) heard ≡ replies.RulePut
-put_reply part moment json rule heard means room all = told_reply part moment json rule heard None means room ∙ all_accepted replies.RulePut heard.answers all
+pub put_reply : (driver : ℕ) (part : Part) (moment : ℕ) (json : List ℕ) (rule : Rule) (heard : Heard) → Means json rule → set_refusal rule part.rules ≡ None → All (λ (answer : MetaAnswer). is_accepted answer.verdict ≡ true) heard.answers
+    → first_reply driver (Some part) (ask.Rule moment json) heard ≡ replies.RulePut
+put_reply driver part moment json rule heard means room all = told_reply driver part moment json rule heard None means room ∙ all_accepted replies.RulePut heard.answers all
 
-pub refused_reply : (verdict : MetaVerdict) (part : Part) (moment : ℕ) (json : List ℕ) (rule : Rule) (before : List MetaAnswer) (call : MetaCall) → Means json rule → set_refusal rule part.rules ≡ None
+pub refused_reply : (verdict : MetaVerdict) (driver : ℕ) (part : Part) (moment : ℕ) (json : List ℕ) (rule : Rule) (before : List MetaAnswer) (call : MetaCall) → Means json rule → set_refusal rule part.rules ≡ None
     → All (λ (answer : MetaAnswer). is_accepted answer.verdict ≡ true) before
-    → first_reply (Some part) (ask.Rule moment json) (record { answers = before ++ answer_of call verdict [] ∷ [] }) ≡ or_then (verdict_refusal verdict) replies.RulePut
-refused_reply verdict part moment json rule before call means room all =
-    told_reply part moment json rule (record { answers = before ++ answer_of call verdict [] ∷ [] }) None means room ∙ behind_accepted replies.RulePut before (answer_of call verdict [] ∷ []) all
+    → first_reply driver (Some part) (ask.Rule moment json) (hears (before ++ answer_of call verdict [] ∷ [])) ≡ or_then (verdict_refusal verdict) replies.RulePut
+refused_reply verdict driver part moment json rule before call means room all =
+    told_reply driver part moment json rule (hears (before ++ answer_of call verdict [] ∷ [])) None means room ∙ behind_accepted replies.RulePut before (answer_of call verdict [] ∷ []) all
 
 not_limit : (verdict : MetaVerdict) (rest : Reply) → rest ≢ replies.RuleLimit → or_then (verdict_refusal verdict) rest ≢ replies.RuleLimit
 not_limit (verdicts.Accepted revision) rest other h = other h
@@ -105,17 +106,17 @@ room_or_full rule rules free = by (knows rule.group rule.id rules) refl
     by true is = free (ap (λ (t : Bool). cond t None (cond (nat_le MOST_RULES (length rules)) (Some Limit) None)) is)
     by false is = many (nat_le MOST_RULES (length rules)) refl is
 
-pub limit_from : (part : Part) (moment : ℕ) (json : List ℕ) (rule : Rule) (heard : Heard) → Means json rule → first_reply (Some part) (ask.Rule moment json) heard ≡ replies.RuleLimit
+pub limit_from : (driver : ℕ) (part : Part) (moment : ℕ) (json : List ℕ) (rule : Rule) (heard : Heard) → Means json rule → first_reply driver (Some part) (ask.Rule moment json) heard ≡ replies.RuleLimit
     → (knows rule.group rule.id part.rules ≡ false) × (64 ≤ length part.rules)
-limit_from part moment json rule heard means is =
-    room_or_full rule part.rules (λ room. absurd (never_limit heard.answers (sym_of (told_reply part moment json rule heard None means room) is)))
+limit_from driver part moment json rule heard means is =
+    room_or_full rule part.rules (λ room. absurd (never_limit heard.answers (sym_of (told_reply driver part moment json rule heard None means room) is)))
   where
     sym_of : {a b c : Reply} → a ≡ b → a ≡ c → b ≡ c
     sym_of h k = cc
 
-pub limit_to : (part : Part) (moment : ℕ) (json : List ℕ) (rule : Rule) (heard : Heard) → Means json rule → (knows rule.group rule.id part.rules ≡ false) × (64 ≤ length part.rules)
-    → first_reply (Some part) (ask.Rule moment json) heard ≡ replies.RuleLimit
-limit_to part moment json rule heard means full = told_reply part moment json rule heard (Some Limit) means (full_set rule part.rules full.0 full.1)
+pub limit_to : (driver : ℕ) (part : Part) (moment : ℕ) (json : List ℕ) (rule : Rule) (heard : Heard) → Means json rule → (knows rule.group rule.id part.rules ≡ false) × (64 ≤ length part.rules)
+    → first_reply driver (Some part) (ask.Rule moment json) heard ≡ replies.RuleLimit
+limit_to driver part moment json rule heard means full = told_reply driver part moment json rule heard (Some Limit) means (full_set rule part.rules full.0 full.1)
 
 -- removing a rule
 pub absent_rule : (group id : List ℕ) (rules : List Rule) → knows group id rules ≡ false → remove_refusal group id rules ≡ Some Absent
@@ -132,14 +133,14 @@ free_rule group id rules known more =
     other : (length rules == 1) ≡ false
     other = grind (arith, nat_tests)
 
-pub removal_reply : (part : Part) (moment : ℕ) (group id : List ℕ) (heard : Heard) (o : Option RemoveFault) → remove_refusal group id part.rules ≡ o
-    → first_reply (Some part) (ask.Unrule moment group id) heard ≡ or_then (removal_refused o) (by_answers replies.RuleRemoved heard.answers)
-removal_reply part moment group id heard o is = ap (λ (fault : Option RemoveFault). or_then (removal_refused fault) (by_answers replies.RuleRemoved heard.answers)) is
+pub removal_reply : (driver : ℕ) (part : Part) (moment : ℕ) (group id : List ℕ) (heard : Heard) (o : Option RemoveFault) → remove_refusal group id part.rules ≡ o
+    → first_reply driver (Some part) (ask.Unrule moment group id) heard ≡ or_then (removal_refused o) (by_answers replies.RuleRemoved heard.answers)
+removal_reply driver part moment group id heard o is = ap (λ (fault : Option RemoveFault). or_then (removal_refused fault) (by_answers replies.RuleRemoved heard.answers)) is
 
-pub removed_reply : (part : Part) (moment : ℕ) (group id : List ℕ) (heard : Heard) → knows group id part.rules ≡ true → length part.rules ≢ 1 → All (λ (answer : MetaAnswer). is_accepted answer.verdict ≡ true) heard.answers
-    → first_reply (Some part) (ask.Unrule moment group id) heard ≡ replies.RuleRemoved
-removed_reply part moment group id heard known more all =
-    removal_reply part moment group id heard None (free_rule group id part.rules known more) ∙ all_accepted replies.RuleRemoved heard.answers all
+pub removed_reply : (driver : ℕ) (part : Part) (moment : ℕ) (group id : List ℕ) (heard : Heard) → knows group id part.rules ≡ true → length part.rules ≢ 1 → All (λ (answer : MetaAnswer). is_accepted answer.verdict ≡ true) heard.answers
+    → first_reply driver (Some part) (ask.Unrule moment group id) heard ≡ replies.RuleRemoved
+removed_reply driver part moment group id heard known more all =
+    removal_reply driver part moment group id heard None (free_rule group id part.rules known more) ∙ all_accepted replies.RuleRemoved heard.answers all
 
 -- the numbers of the tests that a text fails
 abbrev IsNumber : RuleFault → Type 0

@@ -1,6 +1,7 @@
 -- The steps of a plan are few.
-use Rattle.std.proofs.Common.{ℕ, ◌<◌, ◌^◌, Bool, true, false, cond, List, [], ◌∷◌, ◌++◌, length, sym, subst, Option, Some, None, arith}
+use Rattle.std.proofs.Common.{ℕ, ◌<◌, ◌^◌, Bool, true, false, cond, not, List, [], ◌∷◌, ◌++◌, length, sym, subst, Option, Some, None, Ok, Err, ◌≡◌, arith}
 use Rattle.std.specs.Bool.{⊤}
+use Rattle.std.specs.Prelude.{◌==◌}
 use Rattle.std.proofs.lemmas.List.Elements.{All-cons, All-nil}
 use Rattle.std.specs.List.{All, cons_option, filter_map}
 use Rattle.pd_types.specs.declared.region.Peer.{Peer}
@@ -9,7 +10,13 @@ use Rattle.pd_types.specs.declared.rule.Rule.{Rule}
 use Rattle.pd_types.specs.declared.step.Step.{Step}
 use Rattle.pd_types.specs.declared.step.Step.TheVariants as steps
 use Rattle.store_table.specs.declared.entry.StoreEntry.{StoreEntry}
-use Rattle.op_step.specs.Wishes.{next_leader}
+use Rattle.store_table.specs.Entries.{is_usable}
+use Rattle.op_step.specs.Peers.{has_store, peer_on}
+use Rattle.op_step.specs.Votes.{is_voter}
+use Rattle.op_step.specs.Wishes.{Plan, add_plan, is_unknown, lead_by, move_by, next_leader, next_part, plan_of, remove_by, remove_leader}
+use Rattle.op_step.specs.declared.wishes.BuildFault.TheVariants as faults
+use Rattle.op_step.specs.declared.wishes.Wish.{Wish}
+use Rattle.op_step.specs.declared.wishes.Wish.TheVariants as wishes
 use Rattle.rule_set.specs.InForce.{rules_at}
 use Rattle.rule_checker.specs.declared.class.Class.{Class}
 use Rattle.rule_checker.specs.declared.class.Class.TheVariants as classes
@@ -87,3 +94,81 @@ few_more beat (Plans class list from to) plans h rest = All-cons (λ (one : Plan
 pub plans_few : (around : Around) (beats : List RegionBeat) → AreFew (filter_map (λ beat. plan_told beat (told_in around beat)) beats)
 plans_few around [] = All-nil (λ (one : Planned). length one.steps < 2 ^ 32)
 plans_few around (beat ∷ beats) = few_more beat (told_in around beat) _ (told_few beat around.rules around.stores around.held around.now) (plans_few around beats)
+
+-- of the plans of wishes
+abbrev FewPlan : Plan → Type 0
+FewPlan (Ok list) = length list < 2 ^ 32
+FewPlan (Err fault) = ⊤
+
+few_either : (b : Bool) (one two : Plan) → FewPlan one → FewPlan two → FewPlan (cond b one two)
+few_either true one two h k = h
+few_either false one two h k = k
+
+-- a new peer's steps, behind its tests
+abbrev new_steps : ℕ → Plan
+new_steps store = Ok (steps.AddLearner 0 store ∷ (steps.PromoteLearner 0 store ∷ []))
+
+-- a plan behind the test of a store that has a peer, and behind that of one that isn't usable
+abbrev unheld : ℕ → RegionBeat → Plan → Plan
+unheld store beat plan = cond (has_store store beat) (Err faults.HasPeer) plan
+
+abbrev usable : ℕ → RegionBeat → List StoreEntry → ℕ → Plan → Plan
+usable store beat stores now plan = cond (not (is_usable store now stores)) (Err faults.NotUsable) (unheld store beat plan)
+
+usable_few : (store : ℕ) (beat : RegionBeat) (stores : List StoreEntry) (now : ℕ) (plan : Plan) → FewPlan plan → FewPlan (usable store beat stores now plan)
+usable_few store beat stores now plan h =
+    few_either (not (is_usable store now stores)) (Err faults.NotUsable) (unheld store beat plan) tt (few_either (has_store store beat) (Err faults.HasPeer) plan tt h)
+
+known_few : (store : ℕ) (stores : List StoreEntry) (plan : Plan) → FewPlan plan → FewPlan (cond (is_unknown store stores) (Err faults.UnknownStore) plan)
+known_few store stores plan h = few_either (is_unknown store stores) (Err faults.UnknownStore) plan tt h
+
+new_few : (store : ℕ) → FewPlan (new_steps store)
+new_few store = omega arith
+
+add_few : (store : ℕ) (beat : RegionBeat) (stores : List StoreEntry) (now : ℕ) → FewPlan (add_plan store beat stores now)
+add_few store beat stores now = known_few store stores (usable store beat stores now (new_steps store)) (usable_few store beat stores now (new_steps store) (new_few store))
+
+abbrev led : Peer → Plan
+led peer = Ok (steps.TransferLeader peer.id peer.store ∷ [])
+
+led_few : (peer : Peer) → FewPlan (led peer)
+led_few peer = omega arith
+
+lead_few : (o : Option Peer) (beat : RegionBeat) → FewPlan (lead_by o beat)
+lead_few None beat = tt
+lead_few (Some peer) beat =
+    few_either (peer.id == beat.leader) (Err faults.IsLeader) (cond (not (is_voter peer)) (Err faults.NotVoter) (led peer)) tt (few_either (not (is_voter peer)) (Err faults.NotVoter) (led peer) tt (led_few peer))
+
+leader_few : (peer : Peer) (o : Option Peer) → FewPlan (remove_leader peer o)
+leader_few peer None = tt
+leader_few peer (Some next) = omega arith
+
+remove_few : (o : Option Peer) (beat : RegionBeat) (stores : List StoreEntry) (now : ℕ) → FewPlan (remove_by o beat stores now)
+remove_few None beat stores now = tt
+remove_few (Some peer) beat stores now =
+    few_either _ _ (Ok (steps.RemovePeer peer.id peer.store ∷ [])) (leader_few peer (next_leader beat stores now)) (omega arith)
+
+moved_few : (voter leads : Bool) (o : Option Peer) (to : ℕ) (last : Step)
+    → length (((steps.AddLearner 0 to ∷ []) ++ cond voter (steps.PromoteLearner 0 to ∷ []) [] ++ cond leads (next_part o to) []) ++ last ∷ []) < 2 ^ 32
+moved_few true true None to last = omega arith
+moved_few true true (Some next) to last = omega arith
+moved_few true false o to last = omega arith
+moved_few false true None to last = omega arith
+moved_few false true (Some next) to last = omega arith
+moved_few false false o to last = omega arith
+
+move_few : (o : Option Peer) (to : ℕ) (beat : RegionBeat) (stores : List StoreEntry) (now : ℕ) → FewPlan (move_by o to beat stores now)
+move_few None to beat stores now = tt
+move_few (Some peer) to beat stores now = moved_few _ _ (next_leader beat stores now) to (steps.RemovePeer peer.id peer.store)
+
+plan_few : (wish : Wish) (beat : RegionBeat) (stores : List StoreEntry) (now : ℕ) → FewPlan (plan_of wish beat stores now)
+plan_few (wishes.AddPeer store) beat stores now = add_few store beat stores now
+plan_few (wishes.TransferLeader store) beat stores now = known_few store stores (lead_by (peer_on store beat) beat) (lead_few (peer_on store beat) beat)
+plan_few (wishes.RemovePeer store) beat stores now = known_few store stores (remove_by (peer_on store beat) beat stores now) (remove_few (peer_on store beat) beat stores now)
+plan_few (wishes.MovePeer from to) beat stores now =
+    let moved = move_by (peer_on from beat) to beat stores now in
+    known_few from stores (cond (is_unknown to stores) (Err faults.UnknownStore) (usable to beat stores now moved))
+    (known_few to stores (usable to beat stores now moved) (usable_few to beat stores now moved (move_few (peer_on from beat) to beat stores now)))
+
+pub built_few : (wish : Wish) (beat : RegionBeat) (stores : List StoreEntry) (now : ℕ) (list : List Step) → plan_of wish beat stores now ≡ Ok list → length list < 2 ^ 32
+built_few wish beat stores now list is = subst FewPlan is (plan_few wish beat stores now)

@@ -22,6 +22,7 @@ use Rattle.pd_state.proofs.Leaves.{WorkLeaves, add_leaves}
 -- the operator was added
 abbrev is_added : Adding → Bool
 is_added (adding.Added answer) = true
+is_added (adding.Build fault) = false
 is_added (adding.Add fault) = false
 is_added (adding.OldTerm fence) = false
 is_added (adding.Conflict found) = false
@@ -66,6 +67,7 @@ module _ (around : Around) (op : NewOp) (beat : RegionBeat) (p q : Planning) (se
 round_by : (round : CodeRound) (p q : Planning) (sents sents_old sents_new : List Sent) (came : Adding) → sents_new ≡ sents_old ++ sents → (refuses_adding came ≡ true → q ≡ p) → (is_added came ≡ false → sents_new ≡ sents_old)
     → round_after (record { planning = p; sents = sents_old; added = round.added; stopped = round.stopped }) (work q sents came) came ≡ record { planning = q; sents = sents_new; added = (tallied round came).added; stopped = (tallied round came).stopped }
 round_by round p q sents sents_old sents_new (adding.Added answer) sent leaves silent = λ i. record { planning = q; sents = sym sent i; added = round.added + 1; stopped = false }
+round_by round p q sents sents_old sents_new (adding.Build fault) sent leaves silent = λ i. record { planning = sym (leaves refl) i; sents = sym (silent refl) i; added = round.added; stopped = round.stopped }
 round_by round p q sents sents_old sents_new (adding.Add fault) sent leaves silent = λ i. record { planning = sym (leaves refl) i; sents = sym (silent refl) i; added = round.added; stopped = round.stopped }
 round_by round p q sents sents_old sents_new (adding.OldTerm fence) sent leaves silent = λ i. record { planning = q; sents = sym (silent refl) i; added = round.added; stopped = true }
 round_by round p q sents sents_old sents_new (adding.Conflict found) sent leaves silent = λ i. record { planning = q; sents = sym (silent refl) i; added = round.added; stopped = true }

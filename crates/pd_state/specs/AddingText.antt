@@ -2,6 +2,8 @@
 use Rattle.std.specs.Prelude.{ℕ, List, ◌++◌, codes}
 use Rattle.std.specs.Fmt.{decimal}
 use Rattle.pd_types.specs.StepText.{step_text}
+use Rattle.op_step.specs.declared.wishes.BuildFault.{BuildFault}
+use Rattle.op_step.specs.declared.wishes.BuildFault.TheVariants as builds
 use Rattle.op_step.specs.declared.safety.Why.{Why}
 use Rattle.op_step.specs.declared.safety.Why.TheVariants as why
 use Rattle.op_control.specs.declared.operator.OpState.{OpState}
@@ -48,9 +50,21 @@ fault_text (faults.Limited available needed) = codes "limited available " ++ dec
 fault_text faults.Limit = codes "limit"
 fault_text faults.NoMemory = codes "no-memory"
 
+-- why a wish can't be built; want of memory is no answer
+abbrev pub build_text : BuildFault → List ℕ
+build_text builds.UnknownStore = codes "unknown-store"
+build_text builds.NotUsable = codes "not-usable"
+build_text builds.HasPeer = codes "has-peer"
+build_text builds.NoPeer = codes "no-peer"
+build_text builds.IsLeader = codes "is-leader"
+build_text builds.NotVoter = codes "not-voter"
+build_text builds.NoTarget = codes "no-target"
+build_text builds.NoMemory = codes "no-memory"
+
 -- what came of adding an operator
 abbrev pub adding_text : Adding → List ℕ
 adding_text (adding.Added answer) = dispatch_text answer
+adding_text (adding.Build fault) = build_text fault
 adding_text (adding.Add fault) = fault_text fault
 adding_text (adding.OldTerm fence) = codes "old-term " ++ decimal fence
 adding_text (adding.Conflict found) = codes "conflict " ++ decimal found

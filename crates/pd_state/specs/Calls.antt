@@ -21,7 +21,10 @@ use Rattle.meta_store.specs.Cells.{cell_at, revision_in}
 use Rattle.meta_store.specs.Past.{is_accepted}
 use Rattle.meta_store.specs.Stores.{store_bytes, store_key}
 use Rattle.pd_state.specs.Asking.{hearing, wanted}
+use Rattle.sched_api.specs.declared.scheduler.Said.{Said}
 use Rattle.pd_state.specs.Checking.{check_of, patrol_of}
+use Rattle.pd_state.specs.Ctl.{ctl_of}
+use Rattle.pd_state.specs.Scheduling.{schedule_of}
 use Rattle.pd_state.specs.declared.part.Part.{Part}
 use Rattle.pd_state.specs.declared.reply.Reply.{Reply}
 use Rattle.pd_state.specs.Replies.{hello_refusal, removal_refused, rule_refusal}
@@ -89,24 +92,28 @@ rule_delete part group id =
 abbrev pub unrule_calls : Part → List ℕ → List ℕ → List MetaCall
 unrule_calls part group id = unless (removal_refused (remove_refusal group id part.rules)) (cons_option (rule_delete part group id) [])
 
--- the call that a request makes next, after these answers: a Term announces its term, and without a term part no other request makes one
-abbrev pub next_call : Option Part → Request → List MetaAnswer → Option MetaCall
-next_call part (ask.Term term moment) before = in_turn (calls.Lead term ∷ []) before
-next_call part ask.Retire before = None
-next_call (Some part) (ask.Hello store moment address labels) before = in_turn (hello_calls part store address labels) before
-next_call (Some part) (ask.Alive store moment) before = None
-next_call (Some part) (ask.Beat store moment beat) before = None
-next_call (Some part) (ask.Rule moment json) before = in_turn (rule_calls part (rule_told json)) before
-next_call (Some part) (ask.Unrule moment group id) before = in_turn (unrule_calls part group id) before
-next_call (Some part) (ask.Check moment region) before = wanted (check_of part moment region (hearing part.known before))
-next_call (Some part) (ask.Patrol moment workers) before = wanted (patrol_of part moment (hearing part.known before))
-next_call None (ask.Hello store moment address labels) before = None
-next_call None (ask.Alive store moment) before = None
-next_call None (ask.Beat store moment beat) before = None
-next_call None (ask.Rule moment json) before = None
-next_call None (ask.Unrule moment group id) before = None
-next_call None (ask.Check moment region) before = None
-next_call None (ask.Patrol moment workers) before = None
+-- the call that a request makes next where the bench said this, after these answers: a Term announces its term, and without a term part no other request makes one
+abbrev pub next_call : Option Part → Request → List Said → List MetaAnswer → Option MetaCall
+next_call part (ask.Term term moment) said before = in_turn (calls.Lead term ∷ []) before
+next_call part ask.Retire said before = None
+next_call (Some part) (ask.Hello store moment address labels) said before = in_turn (hello_calls part store address labels) before
+next_call (Some part) (ask.Alive store moment) said before = None
+next_call (Some part) (ask.Beat store moment beat) said before = None
+next_call (Some part) (ask.Rule moment json) said before = in_turn (rule_calls part (rule_told json)) before
+next_call (Some part) (ask.Unrule moment group id) said before = in_turn (unrule_calls part group id) before
+next_call (Some part) (ask.Check moment region) said before = wanted (check_of part moment region (hearing part.known before))
+next_call (Some part) (ask.Patrol moment workers) said before = wanted (patrol_of part moment (hearing part.known before))
+next_call (Some part) (ask.Schedule moment) said before = wanted (schedule_of part moment said (hearing part.known before))
+next_call (Some part) (ask.Ctl moment words) said before = wanted (ctl_of part moment words (hearing part.known before))
+next_call None (ask.Hello store moment address labels) said before = None
+next_call None (ask.Alive store moment) said before = None
+next_call None (ask.Beat store moment beat) said before = None
+next_call None (ask.Rule moment json) said before = None
+next_call None (ask.Unrule moment group id) said before = None
+next_call None (ask.Check moment region) said before = None
+next_call None (ask.Patrol moment workers) said before = None
+next_call None (ask.Schedule moment) said before = None
+next_call None (ask.Ctl moment words) said before = None
 
 -- the peers of regions, and one more for each region: as many ids are drawn at most for the plans of all
 abbrev pub most_draws : List RegionBeat → ℕ
@@ -114,10 +121,12 @@ most_draws [] = 0
 most_draws (beat ∷ beats) = length beat.region.peers + 1 + most_draws beats
 
 -- how many calls a request makes at most: a check draws an id of a new peer and passes over the region's own; a patrol does so for each region, and writes the
--- record of each store that it buries
+-- record of each store that it buries; a turn of a scheduler and a command of pd-ctl do so for one region at most, or write one store's record
 abbrev pub most_calls : Option Part → Request → ℕ
 most_calls (Some part) (ask.Check moment region) = option_map_or (λ (beat : RegionBeat). length beat.region.peers + 1) (region_in region part.standing) 0
 most_calls (Some part) (ask.Patrol moment workers) = most_draws part.standing + length part.stores
+most_calls (Some part) (ask.Schedule moment) = most_draws part.standing
+most_calls (Some part) (ask.Ctl moment words) = most_draws part.standing + 1
 most_calls part request = 2
 
 -- what is said of the answers behind one: the same of those to the calls that are left, or there are none

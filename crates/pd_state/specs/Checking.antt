@@ -104,6 +104,7 @@ stopped_round round work = record { planning = work.planning; sents = round.sent
 -- once one operator came to this: it was added, passed over, or had no id
 abbrev pub round_after : Round → Work → Adding → Round
 round_after round work (adding.Added answer) = record { planning = work.planning; sents = round.sents ++ work.sents; added = round.added + 1; stopped = false }
+round_after round work (adding.Build fault) = round
 round_after round work (adding.Add fault) = round
 round_after round work (adding.OldTerm fence) = stopped_round round work
 round_after round work (adding.Conflict found) = stopped_round round work
@@ -286,6 +287,7 @@ Does asking planning stores did driver old new = Talks Deed asking (record { pla
 -- the code's two numbers, once one operator came to this
 abbrev pub tallied : CodeRound → Adding → CodeRound
 tallied round (adding.Added answer) = record { added = round.added + 1; stopped = false }
+tallied round (adding.Build fault) = round
 tallied round (adding.Add fault) = round
 tallied round (adding.OldTerm fence) = record { added = round.added; stopped = true }
 tallied round (adding.Conflict found) = record { added = round.added; stopped = true }

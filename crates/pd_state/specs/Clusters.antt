@@ -11,6 +11,9 @@ use Rattle.pd_state.specs.declared.entry.Entry.{Entry}
 use Rattle.pd_state.specs.declared.part.Part.{Part}
 use Rattle.pd_state.specs.declared.reply.Reply.{Reply}
 use Rattle.pd_state.specs.declared.reply.Reply.TheVariants as replies
+use Rattle.sched_api.specs.Benches.{Seats}
+use Rattle.pd_state.specs.BenchHeard.{OverBench}
+use Rattle.pd_state.specs.Ctl.{reads_only}
 use Rattle.pd_state.specs.State.{moment_of, part_after}
 use Rattle.pd_state.specs.Heard.{known_after, told_all}
 use Rattle.pd_state.specs.Gates.{IsGated}
@@ -37,16 +40,17 @@ pub record Died (old new : ClusterValue) : Type 0 where
   pub entries_is : new.entries ≡ old.entries
   pub dead_is : new.dead ≡ true
 
--- an operator failed its tests; where it had no id, those that were passed over count as taken
+-- an operator couldn't be built or failed its tests; where it had no id, those that were passed over count as taken
 abbrev pub refuses_adding : Adding → Bool
 refuses_adding (adding.Added answer) = false
+refuses_adding (adding.Build fault) = true
 refuses_adding (adding.Add fault) = true
 refuses_adding (adding.OldTerm fence) = false
 refuses_adding (adding.Conflict found) = false
 refuses_adding adding.MetaLimit = false
 refuses_adding adding.IdsSpent = false
 
--- the reply is a refusal
+-- the reply is a refusal, or a scheduler's that proposes nothing
 abbrev pub refuses : Reply → Bool
 refuses replies.NotLeading = true
 refuses (replies.Term term stores rules) = false
@@ -75,8 +79,12 @@ refuses replies.NoFault = false
 refuses (replies.Plan class from to came) = refuses_adding came
 refuses (replies.NoPlan from) = true
 refuses (replies.Patrolled regions ok split plan no_plan added buried) = false
+refuses replies.NoScheduler = true
+refuses (replies.Silent name) = true
+refuses (replies.Proposed name proposal came) = refuses_adding came
+refuses (replies.Report json) = false
 
--- a request with this reply is refused; a Term isn't among these, since a refused one ends the term before it
+-- a request with this reply is refused, or asks for nothing but a report; a Term isn't among these, since a refused one ends the term before it
 abbrev pub refused_by : Request → Reply → Bool
 refused_by (ask.Term term moment) reply = false
 refused_by ask.Retire reply = refuses reply
@@ -87,6 +95,8 @@ refused_by (ask.Rule moment json) reply = refuses reply
 refused_by (ask.Unrule moment group id) reply = refuses reply
 refused_by (ask.Check moment region) reply = refuses reply
 refused_by (ask.Patrol moment workers) reply = refuses reply
+refused_by (ask.Schedule moment) reply = refuses reply
+refused_by (ask.Ctl moment words) reply = reads_only words
 
 -- the entry is a request that was refused, and no Term
 abbrev pub is_refused : Entry → Bool
@@ -108,8 +118,9 @@ pub record Spoken : Type 0 where
   pub told_new : Option (List MetaEntry)
 
 -- One entry was appended, of this actor, line and request, with this reply, and the entries before it allow it; the door said just
--- its answers, and told their calls; a refused request leaves all but the clock and what its answers tell of revisions
-pub record Served (old new : ClusterValue) (door : Spoken) (actor : Actor) (line : ℕ) (request : Request) (reply : Reply) : Type 0 where
+-- its answers, and told their calls; the bench said just what the entry heard of it; a refused request leaves all but the clock and
+-- what its answers tell of revisions
+pub record Served (old new : ClusterValue) (door : Spoken) (bench_old bench_new : Seats) (actor : Actor) (line : ℕ) (request : Request) (reply : Reply) : Type 0 where
   pub entry : Entry
   pub alive : old.dead ≡ false
   pub driver_is : new.driver ≡ old.driver
@@ -120,6 +131,7 @@ pub record Served (old new : ClusterValue) (door : Spoken) (actor : Actor) (line
   pub reply_is : entry.reply ≡ reply
   pub said : door.said_new ≡ door.said_old ++ entry.answers
   pub told : door.told_new ≡ told_all door.told_old old.driver entry.answers
+  pub bench : OverBench (part_after (reverse old.entries)) entry bench_old bench_new
   pub lives : new.dead ≡ false
   pub replays : new.part ≡ part_after (reverse new.entries)
   pub legal : IsLegalAfter old.driver (reverse old.entries) entry

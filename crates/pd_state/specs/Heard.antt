@@ -1,5 +1,5 @@
 -- What a request heard besides its own words, and what the door said and told of it.
-use Rattle.std.specs.Prelude.{ℕ, List, [], ◌∷◌, ◌++◌, fold, reverse, Option}
+use Rattle.std.specs.Prelude.{◌≡◌, ℕ, List, [], ◌∷◌, ◌++◌, fold, reverse, Option}
 use Rattle.meta_store.specs.declared.record.Cell.{Cell}
 use Rattle.meta_store.specs.declared.record.MetaAnswer.{MetaAnswer}
 use Rattle.meta_store.specs.declared.record.MetaEntry.{MetaEntry}
@@ -10,11 +10,20 @@ use Rattle.pd_state.specs.declared.heard.Heard.{Heard}
 
 -- what an entry heard
 abbrev pub heard_of : Entry → Heard
-heard_of entry = record { answers = entry.answers }
+heard_of entry = record { answers = entry.answers; bench = entry.bench; names = entry.names }
+
+-- what a request hears that hears these answers alone
+abbrev pub hears : List MetaAnswer → Heard
+hears answers = record { answers = answers; bench = []; names = [] }
 
 -- what a request hears that makes no call
 abbrev pub nothing : Heard
-nothing = record { answers = [] }
+nothing = hears []
+
+-- nothing was heard of a bench
+pub record IsAlone (heard : Heard) : Type 0 where
+  pub bench : heard.bench ≡ []
+  pub names : heard.names ≡ []
 
 -- the records that a lead handed out: those of the first answer
 abbrev pub handed_out : List MetaAnswer → List Cell

@@ -1,5 +1,5 @@
 -- What a cluster knows in its term: the stores that it was handed and those that said hello (kvproto pdpb, `PutStore`). Each list of entries has the latest first.
-use Rattle.std.specs.Prelude.{◌≡◌, ◌⊎◌, ℕ, ◌≤◌, Bool, true, false, ◌||◌, nat_eq, List, [], ◌∷◌, ◌++◌, length, map, Option, Some, None, All, Contains, filter_map}
+use Rattle.std.specs.Prelude.{◌≡◌, ◌⊎◌, ℕ, ◌≤◌, Bool, true, false, ◌&&◌, ◌||◌, nat_eq, List, [], ◌∷◌, ◌++◌, length, map, Option, Some, None, Result, Ok, All, Contains, filter_map}
 use Rattle.std.specs.List.{Any, list_any}
 use Rattle.std.specs.Option.{is_some}
 use Rattle.pd_types.specs.declared.request.Request.{Request}
@@ -16,7 +16,12 @@ use Rattle.store_table.specs.Entries.{AreRising, entry_at, state_at}
 use Rattle.id_alloc.specs.Windows.{window_in}
 use Rattle.op_control.specs.Table.{state_of}
 use Rattle.pd_state.specs.HandedOut.{limits_of, or_default, record_at, rules_told, store_in, stores_told}
+use Rattle.pd_ctl.specs.declared.command.Command.{Command}
+use Rattle.pd_ctl.specs.declared.command.Command.TheVariants as commands
+use Rattle.pd_ctl.specs.declared.fault.CtlFault.{CtlFault}
 use Rattle.pd_state.specs.Checking.{deed_of, patrol_of}
+use Rattle.pd_state.specs.Ctl.{ctl_of}
+use Rattle.pd_state.specs.Reports.{command_told}
 use Rattle.pd_state.specs.Heard.{handed_out, heard_of}
 use Rattle.pd_state.specs.State.{part_of}
 use Rattle.pd_state.specs.declared.heard.Heard.{Heard}
@@ -42,6 +47,8 @@ greets store (ask.Rule moment json) reply = false
 greets store (ask.Unrule moment group id) reply = false
 greets store (ask.Check moment region) reply = false
 greets store (ask.Patrol moment workers) reply = false
+greets store (ask.Schedule moment) reply = false
+greets store (ask.Ctl moment words) reply = false
 
 -- an accepted hello of this store
 abbrev pub is_hello : ℕ → Entry → Bool
@@ -69,6 +76,8 @@ begun_with (ask.Rule moment json) own before = before
 begun_with (ask.Unrule moment group id) own before = before
 begun_with (ask.Check moment region) own before = before
 begun_with (ask.Patrol moment workers) own before = before
+begun_with (ask.Schedule moment) own before = before
+begun_with (ask.Ctl moment words) own before = before
 
 -- the records that a term part was handed
 abbrev pub handed_to : List Entry → List Cell
@@ -94,6 +103,8 @@ has_tombstone (Some state) = is_tombstone state
 -- a patrol that stood on this and heard this left the store a tombstone
 abbrev pub entombs : ℕ → Request → Heard → Part → Bool
 entombs store (ask.Patrol moment workers) heard part = has_tombstone (state_at store (deed_of (patrol_of part moment) part moment heard.answers).stores)
+entombs store (ask.Schedule moment) heard part = false
+entombs store (ask.Ctl moment words) heard part = false
 entombs store (ask.Term term moment) heard part = false
 entombs store ask.Retire heard part = false
 entombs store (ask.Hello at moment address labels) heard part = false
@@ -102,6 +113,46 @@ entombs store (ask.Beat at moment beat) heard part = false
 entombs store (ask.Rule moment json) heard part = false
 entombs store (ask.Unrule moment group id) heard part = false
 entombs store (ask.Check moment region) heard part = false
+
+-- the state is Offline
+abbrev pub is_offline : StoreState → Bool
+is_offline states.Up = false
+is_offline states.Offline = true
+is_offline states.Tombstone = false
+
+-- where there is a state
+abbrev pub has_offline : Option StoreState → Bool
+has_offline None = false
+has_offline (Some state) = is_offline state
+
+-- the command deletes this store
+abbrev pub names_store : ℕ → Result Command CtlFault → Bool
+names_store store (Ok (commands.StoreDelete id)) = nat_eq id store
+names_store store _ = false
+
+-- a command of pd-ctl that stood on this and heard this deleted the store, and left it Offline
+abbrev pub deletes : ℕ → Request → Heard → Part → Bool
+deletes store (ask.Ctl moment words) heard part = names_store store (command_told words) && has_offline (state_at store (deed_of (ctl_of part moment words) part moment heard.answers).stores)
+deletes store (ask.Term term moment) heard part = false
+deletes store ask.Retire heard part = false
+deletes store (ask.Hello at moment address labels) heard part = false
+deletes store (ask.Alive at moment) heard part = false
+deletes store (ask.Beat at moment beat) heard part = false
+deletes store (ask.Rule moment json) heard part = false
+deletes store (ask.Unrule moment group id) heard part = false
+deletes store (ask.Check moment region) heard part = false
+deletes store (ask.Patrol moment workers) heard part = false
+deletes store (ask.Schedule moment) heard part = false
+
+-- one of these entries deleted the store
+abbrev pub is_deleted : ℕ → List Entry → Bool
+is_deleted store [] = false
+is_deleted store (entry ∷ entries) = deletes store entry.request (heard_of entry) (part_of entries) || is_deleted store entries
+
+-- the state of a store that pd-ctl deleted, or didn't
+abbrev pub deleted_state : Bool → StoreState → StoreState
+deleted_state true state = states.Offline
+deleted_state false state = state
 
 -- one of these entries is a patrol that left the store a tombstone
 abbrev pub is_entombed : ℕ → List Entry → Bool
@@ -122,12 +173,12 @@ pub record WasHanded (entries : List Entry) (store : ℕ) (rec : StoreRec) : Typ
   pub labels : rec.labels ≡ known.labels
 
 -- The stores that a term part knows: exactly those that it was handed and those of which a hello was accepted. Each has the address
--- and the labels of its last accepted hello, or else those that were handed out, and the state that was, Up for a new one, unless a
--- patrol buried the store; they stand by rising ids
+-- and the labels of its last accepted hello, or else those that were handed out, and the state that was, Up for a new one, unless
+-- pd-ctl deleted the store or a patrol buried it; they stand by rising ids
 pub record AreKnown (entries : List Entry) (stores : List StoreEntry) : Type 0 where
   pub known : (store : ℕ) → is_some (entry_at store stores) ≡ (list_any (is_hello store) entries || is_some (record_at store (stores_told (handed_to entries))))
   pub told : (store : ℕ) (found : StoreEntry) → entry_at store stores ≡ Some found → LastHello entries store found.store.address found.store.labels ⊎ WasHanded entries store found.store
-  pub state : (store : ℕ) (found : StoreEntry) → entry_at store stores ≡ Some found → found.store.state ≡ buried_state (is_entombed store entries) (state_or_up (record_at store (stores_told (handed_to entries))))
+  pub state : (store : ℕ) (found : StoreEntry) → entry_at store stores ≡ Some found → found.store.state ≡ buried_state (is_entombed store entries) (deleted_state (is_deleted store entries) (state_or_up (record_at store (stores_told (handed_to entries)))))
   pub rising : AreRising stores
 
 -- The stores that records tell: each is told by one of them; where the records rise by key and no more than 256 tell a store, each that

@@ -1,5 +1,5 @@
--- Which entries a journal may have: each with the first reply that applies over the entries before it, with the answers to just its calls, and with just the
--- steps that it sent. Each list of entries has the latest first.
+-- Which entries a journal may have: each with the first reply that applies over the entries before it, with the answers to just its calls, with as many answers of
+-- schedulers as it lets take a turn, and with just the steps that it sent. Each list of entries has the latest first.
 use Rattle.std.specs.Prelude.{◌≡◌, ℕ, ◌+◌, max, List, [], ◌∷◌, length, map, Option, Some, None}
 use Rattle.pd_types.specs.declared.region.RegionBeat.{RegionBeat}
 use Rattle.pd_types.specs.declared.request.Request.{Request}
@@ -10,8 +10,11 @@ use Rattle.heartbeat.specs.Intakes.{intake_of}
 use Rattle.meta_store.specs.Asked.{AreAsked}
 use Rattle.op_control.specs.declared.turn.Dispatch.{Dispatch}
 use Rattle.op_control.specs.Table.{dispatch_answer}
+use Rattle.pd_state.specs.BenchHeard.{names_heard, turns_of}
 use Rattle.pd_state.specs.Calls.{next_call}
 use Rattle.pd_state.specs.Checking.{check_of, deed_of, patrol_of}
+use Rattle.pd_state.specs.Ctl.{ctl_of, reply_or, report_told}
+use Rattle.pd_state.specs.Scheduling.{schedule_of}
 use Rattle.pd_state.specs.Sends.{message, sent_by}
 use Rattle.pd_state.specs.Heard.{heard_of}
 use Rattle.pd_state.specs.Replies.{alive_reply, beat_reply, begin_reply, hello_reply, rule_reply, unrule_reply}
@@ -28,30 +31,34 @@ use Rattle.pd_state.specs.State.{freed, part_after}
 abbrev pub beat_dispatch : Part → ℕ → RegionBeat → Dispatch
 beat_dispatch part moment beat = dispatch_answer (freed beat part.standing part.operators) beat part.stores (max part.clock moment)
 
--- the first reply that applies, in a term part
-abbrev pub term_reply : Part → Request → Heard → Reply
-term_reply part (ask.Term term moment) heard = begin_reply term heard
-term_reply part ask.Retire heard = replies.Retired
-term_reply part (ask.Hello store moment address labels) heard = hello_reply (state_at store part.stores) (length part.stores) heard
-term_reply part (ask.Alive store moment) heard = alive_reply (state_at store part.stores)
-term_reply part (ask.Beat store moment beat) heard = beat_reply (intake_of beat part.standing) (beat_dispatch part moment beat)
-term_reply part (ask.Rule moment json) heard = rule_reply (rule_told json) part.rules heard
-term_reply part (ask.Unrule moment group id) heard = unrule_reply group id part.rules heard
-term_reply part (ask.Check moment region) heard = (deed_of (check_of part moment region) part moment heard.answers).reply
-term_reply part (ask.Patrol moment workers) heard = (deed_of (patrol_of part moment) part moment heard.answers).reply
+-- the first reply that applies, in a term part of this driver's cluster
+abbrev pub term_reply : ℕ → Part → Request → Heard → Reply
+term_reply driver part (ask.Term term moment) heard = begin_reply term heard
+term_reply driver part ask.Retire heard = replies.Retired
+term_reply driver part (ask.Hello store moment address labels) heard = hello_reply (state_at store part.stores) (length part.stores) heard
+term_reply driver part (ask.Alive store moment) heard = alive_reply (state_at store part.stores)
+term_reply driver part (ask.Beat store moment beat) heard = beat_reply (intake_of beat part.standing) (beat_dispatch part moment beat)
+term_reply driver part (ask.Rule moment json) heard = rule_reply (rule_told json) part.rules heard
+term_reply driver part (ask.Unrule moment group id) heard = unrule_reply group id part.rules heard
+term_reply driver part (ask.Check moment region) heard = (deed_of (check_of part moment region) part moment heard.answers).reply
+term_reply driver part (ask.Patrol moment workers) heard = (deed_of (patrol_of part moment) part moment heard.answers).reply
+term_reply driver part (ask.Schedule moment) heard = (deed_of (schedule_of part moment heard.bench) part moment heard.answers).reply
+term_reply driver part (ask.Ctl moment words) heard = reply_or (report_told driver part moment words heard.names) (deed_of (ctl_of part moment words) part moment heard.answers).reply
 
 -- the first reply that applies: without a term part every request but Term is not served
-abbrev pub first_reply : Option Part → Request → Heard → Reply
-first_reply None (ask.Term term moment) heard = begin_reply term heard
-first_reply None ask.Retire heard = replies.NotLeading
-first_reply None (ask.Hello store moment address labels) heard = replies.NotLeading
-first_reply None (ask.Alive store moment) heard = replies.NotLeading
-first_reply None (ask.Beat store moment beat) heard = replies.NotLeading
-first_reply None (ask.Rule moment json) heard = replies.NotLeading
-first_reply None (ask.Unrule moment group id) heard = replies.NotLeading
-first_reply None (ask.Check moment region) heard = replies.NotLeading
-first_reply None (ask.Patrol moment workers) heard = replies.NotLeading
-first_reply (Some part) request heard = term_reply part request heard
+abbrev pub first_reply : ℕ → Option Part → Request → Heard → Reply
+first_reply driver None (ask.Term term moment) heard = begin_reply term heard
+first_reply driver None ask.Retire heard = replies.NotLeading
+first_reply driver None (ask.Hello store moment address labels) heard = replies.NotLeading
+first_reply driver None (ask.Alive store moment) heard = replies.NotLeading
+first_reply driver None (ask.Beat store moment beat) heard = replies.NotLeading
+first_reply driver None (ask.Rule moment json) heard = replies.NotLeading
+first_reply driver None (ask.Unrule moment group id) heard = replies.NotLeading
+first_reply driver None (ask.Check moment region) heard = replies.NotLeading
+first_reply driver None (ask.Patrol moment workers) heard = replies.NotLeading
+first_reply driver None (ask.Schedule moment) heard = replies.NotLeading
+first_reply driver None (ask.Ctl moment words) heard = replies.NotLeading
+first_reply driver (Some part) request heard = term_reply driver part request heard
 
 -- the steps that an accepted heartbeat sends
 abbrev pub beat_sents : Reply → RegionBeat → List Sent
@@ -63,6 +70,8 @@ abbrev pub term_sents : Part → Request → Reply → Heard → List Sent
 term_sents part (ask.Beat store moment beat) reply heard = beat_sents reply beat
 term_sents part (ask.Check moment region) reply heard = (deed_of (check_of part moment region) part moment heard.answers).sents
 term_sents part (ask.Patrol moment workers) reply heard = (deed_of (patrol_of part moment) part moment heard.answers).sents
+term_sents part (ask.Schedule moment) reply heard = (deed_of (schedule_of part moment heard.bench) part moment heard.answers).sents
+term_sents part (ask.Ctl moment words) reply heard = (deed_of (ctl_of part moment words) part moment heard.answers).sents
 term_sents part (ask.Term term moment) reply heard = []
 term_sents part ask.Retire reply heard = []
 term_sents part (ask.Hello store moment address labels) reply heard = []
@@ -86,8 +95,10 @@ sends_by driver past request reply heard = map (message driver (term_in (part_af
 
 -- an entry that this past of a driver's cluster allows
 pub record IsLegalAfter (driver : ℕ) (past : List Entry) (entry : Entry) : Type 0 where
-  pub reply_is : entry.reply ≡ first_reply (part_after past) entry.request (heard_of entry)
-  pub asked : AreAsked (next_call (part_after past) entry.request) [] entry.answers
+  pub reply_is : entry.reply ≡ first_reply driver (part_after past) entry.request (heard_of entry)
+  pub asked : AreAsked (next_call (part_after past) entry.request entry.bench) [] entry.answers
+  pub turns_are : length entry.bench ≡ turns_of (part_after past) entry.request entry.names
+  pub names_are : entry.names ≡ names_heard entry.request entry.names
   pub sends_are : entry.sends ≡ sends_by driver past entry.request entry.reply (heard_of entry)
 
 -- each entry is one that those before it allow

@@ -8,6 +8,11 @@ pub mod Asking
 pub mod Sends
 pub mod Adding
 pub mod Checking
+pub mod Wishing
+pub mod Scheduling
+pub mod Reports
+pub mod Ctl
+pub mod BenchHeard
 pub mod State
 pub mod Replies
 pub mod Calls

@@ -38,9 +38,10 @@ abbrev pub Enters : Bool → Around → NewOp → RegionBeat → Planning → Wo
 Enters true around op beat old work = HasNewId around op beat old work
 Enters false around op beat old work = work ≡ entered around op beat old
 
--- what came of adding an operator, by its answer: where a test of its fails, nothing changed, and no id was taken
+-- what came of adding an operator, by its answer: where a test of its fails, nothing changed, and no id was taken. Its steps were built before
 abbrev pub Comes : Adding → Around → NewOp → RegionBeat → Planning → Work → Type 0
 Comes (adding.Add fault) around op beat old work = (refusal_of old.operators op (Some beat) old.limits around.now ≡ Some fault) × (work ≡ left_out old (adding.Add fault))
+Comes (adding.Build fault) around op beat old work = ⊥
 Comes (adding.Added answer) around op beat old work = (refusal_of old.operators op (Some beat) old.limits around.now ≡ None) × Enters (asks_id op.steps) around op beat old work
 Comes (adding.OldTerm fence) around op beat old work = (refusal_of old.operators op (Some beat) old.limits around.now ≡ None) × LacksId beat old work
 Comes (adding.Conflict found) around op beat old work = (refusal_of old.operators op (Some beat) old.limits around.now ≡ None) × LacksId beat old work

@@ -3,6 +3,7 @@ use Rattle.std.specs.Prelude.{ℕ, List, ◌++◌, codes}
 use Rattle.std.specs.Fmt.{decimal}
 use Rattle.hex.specs.Hex.{encode_lower}
 use Rattle.pd_types.specs.BeatCheck.{fault_number}
+use Rattle.pd_types.specs.ProposalText.{proposal_text}
 use Rattle.rule_text.specs.declared.fault.RuleFault.{RuleFault}
 use Rattle.rule_text.specs.declared.fault.RuleFault.TheVariants as faults
 use Rattle.pd_state.specs.AddingText.{adding_text, class_text, dispatch_text}
@@ -23,7 +24,7 @@ rule_fault_number faults.EmptyRange = 9
 rule_fault_number faults.IsolationLevel = 10
 rule_fault_number faults.NoMemory = 0
 
--- the words of the answer, and its numbers in decimal
+-- the words of the answer, and its numbers in decimal; a report is its own text
 abbrev pub reply_text : Reply → List ℕ
 reply_text replies.NotLeading = codes "not-leading"
 reply_text (replies.Term term stores rules) = codes "term " ++ decimal term ++ codes " stores " ++ decimal stores ++ codes " rules " ++ decimal rules
@@ -54,3 +55,7 @@ reply_text (replies.NoPlan from) = codes "no-plan from " ++ decimal from
 reply_text (replies.Patrolled regions ok split plan no_plan added buried) =
     codes "patrol regions " ++ decimal regions ++ codes " ok " ++ decimal ok ++ codes " split " ++ decimal split ++ codes " plan " ++ decimal plan
     ++ codes " no-plan " ++ decimal no_plan ++ codes " added " ++ decimal added ++ codes " buried " ++ decimal buried
+reply_text replies.NoScheduler = codes "no-scheduler"
+reply_text (replies.Silent name) = codes "scheduler " ++ name ++ codes " none"
+reply_text (replies.Proposed name proposal came) = codes "scheduler " ++ name ++ codes " " ++ proposal_text proposal ++ codes " " ++ adding_text came
+reply_text (replies.Report json) = json

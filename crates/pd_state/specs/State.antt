@@ -23,6 +23,8 @@ use Rattle.meta_store.specs.Known.{kept_of}
 use Rattle.pd_state.specs.StoredRules.{rule_told}
 use Rattle.pd_state.specs.Adding.{Around, Planning, around_at, planning_of}
 use Rattle.pd_state.specs.Checking.{check_of, deed_of, patrol_of}
+use Rattle.pd_state.specs.Ctl.{ctl_of}
+use Rattle.pd_state.specs.Scheduling.{schedule_of}
 use Rattle.pd_state.specs.HandedOut.{limits_of, or_default, record_at, rules_told, stores_told, with_record}
 use Rattle.pd_state.specs.Heard.{answers_of, handed_out, heard_of}
 use Rattle.pd_state.specs.declared.entry.Entry.{Entry}
@@ -43,6 +45,8 @@ moment_of (ask.Rule moment json) = moment
 moment_of (ask.Unrule moment group id) = moment
 moment_of (ask.Check moment region) = moment
 moment_of (ask.Patrol moment workers) = moment
+moment_of (ask.Schedule moment) = moment
+moment_of (ask.Ctl moment words) = moment
 
 -- the clock: the greatest moment of all requests, refused, bad and stale ones too
 abbrev pub clock_of : List Entry → ℕ
@@ -60,6 +64,8 @@ term_by (ask.Rule moment json) before = before
 term_by (ask.Unrule moment group id) before = before
 term_by (ask.Check moment region) before = before
 term_by (ask.Patrol moment workers) before = before
+term_by (ask.Schedule moment) before = before
+term_by (ask.Ctl moment words) before = before
 
 -- the number of the last Term
 abbrev pub term_of : List Entry → ℕ
@@ -77,6 +83,8 @@ began_by (ask.Rule moment json) before = before
 began_by (ask.Unrule moment group id) before = before
 began_by (ask.Check moment region) before = before
 began_by (ask.Patrol moment workers) before = before
+began_by (ask.Schedule moment) before = before
+began_by (ask.Ctl moment words) before = before
 
 -- the moment of the last Term
 abbrev pub began_of : List Entry → ℕ
@@ -99,6 +107,8 @@ beats_by (ask.Rule moment json) reply earlier = earlier
 beats_by (ask.Unrule moment group id) reply earlier = earlier
 beats_by (ask.Check moment region) reply earlier = earlier
 beats_by (ask.Patrol moment workers) reply earlier = earlier
+beats_by (ask.Schedule moment) reply earlier = earlier
+beats_by (ask.Ctl moment words) reply earlier = earlier
 
 -- the accepted region heartbeats, the latest first
 abbrev pub beats_of : List Entry → List RegionBeat
@@ -130,6 +140,8 @@ heartbeat_by (ask.Rule moment json) reply store before = before
 heartbeat_by (ask.Unrule moment group id) reply store before = before
 heartbeat_by (ask.Check moment region) reply store before = before
 heartbeat_by (ask.Patrol moment workers) reply store before = before
+heartbeat_by (ask.Schedule moment) reply store before = before
+heartbeat_by (ask.Ctl moment words) reply store before = before
 
 -- a store's last heartbeat: the greatest moment of its accepted hellos and alives
 abbrev pub heartbeat : List Entry → ℕ → Option ℕ
@@ -150,17 +162,20 @@ abbrev pub greeted_by : Reply → StoreRec → List StoreRec → List StoreRec
 greeted_by replies.StorePut rec recs = with_record (kept_state (record_at rec.id recs) rec) recs
 greeted_by _ rec recs = recs
 
--- a Term's records are those that it was handed; a hello changes that of its store, and a patrol those of the stores that it buries
+-- a Term's records are those that it was handed; a hello changes that of its store, a patrol those of the stores that it buries, and pd-ctl that of the store that
+-- it deletes
 abbrev pub records_by : Request → Reply → Heard → Part → List StoreRec → List StoreRec
 records_by (ask.Term term moment) reply heard part recs = stores_told (handed_out heard.answers)
 records_by (ask.Hello store moment address labels) reply heard part recs = greeted_by reply (greeting store address labels) recs
 records_by (ask.Patrol moment workers) reply heard part recs = map (λ (entry : StoreEntry). entry.store) (deed_of (patrol_of part moment) part moment heard.answers).stores
+records_by (ask.Ctl moment words) reply heard part recs = map (λ (entry : StoreEntry). entry.store) (deed_of (ctl_of part moment words) part moment heard.answers).stores
 records_by ask.Retire reply heard part recs = recs
 records_by (ask.Alive store moment) reply heard part recs = recs
 records_by (ask.Beat store moment beat) reply heard part recs = recs
 records_by (ask.Rule moment json) reply heard part recs = recs
 records_by (ask.Unrule moment group id) reply heard part recs = recs
 records_by (ask.Check moment region) reply heard part recs = recs
+records_by (ask.Schedule moment) reply heard part recs = recs
 
 -- what a term begins with that was handed these records: no operator, full limits, and a window that is used up
 abbrev pub planning_told : ℕ → List Cell → Planning
@@ -191,6 +206,8 @@ planned_by (ask.Hello store moment address labels) reply heard part = planned_he
 planned_by (ask.Beat store moment beat) reply heard part = planned_beat reply beat (around_at part moment) (planning_of part)
 planned_by (ask.Check moment region) reply heard part = (deed_of (check_of part moment region) part moment heard.answers).planning
 planned_by (ask.Patrol moment workers) reply heard part = (deed_of (patrol_of part moment) part moment heard.answers).planning
+planned_by (ask.Schedule moment) reply heard part = (deed_of (schedule_of part moment heard.bench) part moment heard.answers).planning
+planned_by (ask.Ctl moment words) reply heard part = (deed_of (ctl_of part moment words) part moment heard.answers).planning
 planned_by ask.Retire reply heard part = planning_of part
 planned_by (ask.Alive store moment) reply heard part = planning_of part
 planned_by (ask.Rule moment json) reply heard part = planning_of part
@@ -217,6 +234,8 @@ rules_by (ask.Alive store moment) reply heard rules = rules
 rules_by (ask.Beat store moment beat) reply heard rules = rules
 rules_by (ask.Check moment region) reply heard rules = rules
 rules_by (ask.Patrol moment workers) reply heard rules = rules
+rules_by (ask.Schedule moment) reply heard rules = rules
+rules_by (ask.Ctl moment words) reply heard rules = rules
 
 -- the rules that the Term was handed, with the later accepted changes
 abbrev pub rules_of : List Entry → List Rule

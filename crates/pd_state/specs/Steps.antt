@@ -18,6 +18,7 @@ use Rattle.pd_state.specs.declared.part.Part.{Part}
 use Rattle.pd_state.specs.declared.reply.Reply.{Reply}
 use Rattle.pd_state.specs.declared.reply.Reply.TheVariants as replies
 use Rattle.pd_state.specs.Checking.{deed_of, patrol_of}
+use Rattle.pd_state.specs.Ctl.{ctl_of, resigns}
 use Rattle.pd_state.specs.State.{moment_of, greeting, kept_state, planned_by, planning_told, removed_by, set_by}
 use Rattle.pd_state.specs.StoredRules.{rule_told}
 
@@ -46,6 +47,8 @@ stores_after (ask.Hello store moment address labels) reply heard part began entr
     hello_after reply (kept_state (option_map (λ entry. entry.store) (entry_at store entries)) (greeting store address labels)) began moment entries
 stores_after (ask.Alive store moment) reply heard part began entries = heard_after reply store moment entries
 stores_after (ask.Patrol moment workers) reply heard part began entries = (deed_of (patrol_of part moment) part moment heard.answers).stores
+stores_after (ask.Ctl moment words) reply heard part began entries = (deed_of (ctl_of part moment words) part moment heard.answers).stores
+stores_after (ask.Schedule moment) reply heard part began entries = entries
 stores_after (ask.Term term moment) reply heard part began entries = entries
 stores_after ask.Retire reply heard part began entries = entries
 stores_after (ask.Beat store moment beat) reply heard part began entries = entries
@@ -69,6 +72,8 @@ standing_after (ask.Rule moment json) reply held = held
 standing_after (ask.Unrule moment group id) reply held = held
 standing_after (ask.Check moment region) reply held = held
 standing_after (ask.Patrol moment workers) reply held = held
+standing_after (ask.Schedule moment) reply held = held
+standing_after (ask.Ctl moment words) reply held = held
 
 -- the rules after a request with this reply
 abbrev pub rules_after : Request → Reply → List Rule → List Rule
@@ -81,6 +86,8 @@ rules_after (ask.Alive store moment) reply rules = rules
 rules_after (ask.Beat store moment beat) reply rules = rules
 rules_after (ask.Check moment region) reply rules = rules
 rules_after (ask.Patrol moment workers) reply rules = rules
+rules_after (ask.Schedule moment) reply rules = rules
+rules_after (ask.Ctl moment words) reply rules = rules
 
 -- the tables of a term after a request with this reply, that heard this
 abbrev pub changed_part : Part → Request → Reply → Heard → Part
@@ -96,6 +103,10 @@ changed_part part request reply heard = record {
   limits = (planned_by request reply heard part).limits;
   window = (planned_by request reply heard part).window;
 }
+
+-- the tables with what a command of pd-ctl may change as the others have it
+abbrev pub rewritten : Part → Part → Part
+rewritten part new = record part { stores = new.stores; operators = new.operators; limits = new.limits; window = new.window; known = new.known }
 
 -- the entry of a store that a term was handed
 abbrev pub loaded_at : ℕ → StoreRec → StoreEntry
@@ -136,4 +147,5 @@ abbrev pub stepped : Option Part → Request → Reply → Heard → Option Part
 stepped part (ask.Term term moment) reply heard = begun_part reply term moment heard.answers
 stepped part ask.Retire reply heard = None
 stepped None request reply heard = None
+stepped (Some part) (ask.Ctl moment words) reply heard = if resigns words then None else Some (changed_part part (ask.Ctl moment words) reply heard)
 stepped (Some part) request reply heard = Some (changed_part part request reply heard)

@@ -1,20 +1,22 @@
 // What comes of adding an operator.
 ghost use Rattle.std.specs.Prelude.{◌≡◌, ◌<◌, ◌∷◌, [], Some, slice_index};
 ghost use Rattle.hex.specs.Hex.{encode_lower, lower_digits};
-ghost use Rattle.pd_state.specs.AddingText.{adding_text, class_text, dispatch_text, state_text, why_text};
+ghost use Rattle.pd_state.specs.AddingText.{adding_text, build_text, class_text, dispatch_text, state_text, why_text};
 
 use op_control::{AddFault, Dispatch, OpState};
-use op_step::Why;
+use op_step::{BuildFault, Why};
 use rule_checker::Class;
 use std::fmt;
 
 /// What comes of adding an operator: it is dispatched at once, or the first reason why it isn't
-/// added.
+/// added. Want of memory is no reason here.
 #[derive(Clone, Copy, Debug, PartialEq, Eq)]
 pub enum Adding {
     /// It was added, and its dispatch was answered so.
     Added(Dispatch),
-    /// One of the tests of an operator fails; want of memory isn't among them here.
+    /// The wish for it can't be built.
+    Build(BuildFault),
+    /// One of the tests of an operator fails.
     Add(AddFault),
     /// A later term was announced, so that no id was taken.
     OldTerm { fence: u64 },
@@ -49,6 +51,22 @@ fn why_text(why: Why) -> &'static str
         Why::Before => "before",
         Why::After => "after",
         Why::Target => "target",
+    }
+}
+
+// Why a wish can't be built.
+fn build_text(fault: BuildFault) -> &'static str
+    ensures value { result.now ≡ build_text fault }
+{
+    match fault {
+        BuildFault::UnknownStore => "unknown-store",
+        BuildFault::NotUsable => "not-usable",
+        BuildFault::HasPeer => "has-peer",
+        BuildFault::NoPeer => "no-peer",
+        BuildFault::IsLeader => "is-leader",
+        BuildFault::NotVoter => "not-voter",
+        BuildFault::NoTarget => "no-target",
+        BuildFault::NoMemory => "no-memory",
     }
 }
 
@@ -143,6 +161,7 @@ impl fmt::Display for Adding {
                 let text = DispatchText { dispatch };
                 write!(f, "{text}")
             }
+            Adding::Build(fault) => f.write_str(build_text(fault)),
             Adding::Add(AddFault::NoRegion) => write!(f, "no-region"),
             Adding::Add(AddFault::EpochMoved { kept }) => {
                 let (conf_ver, version) = (kept.conf_ver, kept.version);

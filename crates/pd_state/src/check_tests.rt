@@ -1,15 +1,9 @@
 // The checker, the patrol and the operators that they add, by scripts with typed answers.
-use crate::Part;
-use crate::scripts::{Scene, text};
-use meta_store::store_key;
-use op_control::{Dispatch, NewOp, Operators};
-use op_step::{Held, Why};
-use pd_types::{Step, Steps};
-use std::alloc::Global;
+use crate::scripts::Scene;
 use std::test::Fail;
-use store_limit::Limits;
 
-// A Down peer is replaced: the misfit numbers are 2, 1 and 0. The worked row of repair.
+// A Down peer is replaced: the misfit numbers are 2, 1 and 0. The worked row of repair. The messages go to
+// the leader's store, with the place of the entry that sent each.
 const REPAIR: &str = "\
 term 1 1000 => term 1 stores 0 rules 1
 hello 1 1000 a1 zone=z1 => store put
@@ -26,13 +20,7 @@ beat 1801003 7 - - 3 1 11 11:1:v,12:2:v,13:3:v,1000001:4:v => accepted removed 0
 check 1801003 7 => plan remove from 1 to 0 send remove-peer peer 13 store 3
 beat 1801004 7 - - 4 1 11 11:1:v,12:2:v,1000001:4:v => accepted removed 0 done
 check 1801004 7 => no-fault
-";
-
-// The messages of that row, by hand: to the leader's store, with the place of the entry that sent it.
-const REPAIR_SENDS: &str = "\
-1 to 1 term 1 entry 10 region 7 add-learner peer 1000001 store 4
-1 to 1 term 1 entry 11 region 7 promote-learner peer 1000001 store 4
-1 to 1 term 1 entry 13 region 7 remove-peer peer 13 store 3
+sends => (1 to 1 term 1 entry 10 region 7 add-learner peer 1000001 store 4)(1 to 1 term 1 entry 11 region 7 promote-learner peer 1000001 store 4)(1 to 1 term 1 entry 13 region 7 remove-peer peer 13 store 3)
 ";
 
 // Two voters are missing and a learner is on a Down store: three misfits, of which each plan takes one,
@@ -156,67 +144,26 @@ beat 24001 7 - - 1 1 11 11:1:v,12:2:v,13:3:l => accepted removed 0 held before l
 beat 24002 7 - - 1 1 11 11:1:v,12:2:v,13:3:l => accepted removed 0 ended Expired
 ";
 
-// Each script by itself.
-#[test]
-fn checks_and_patrols_are_answered(rt: HostRuntime) -> Result<(), Fail> {
-    let alloc = rt.alloc();
-    let scripts = [
-        REPAIR,
-        THREE_MISFITS,
-        NO_FIT,
-        SPLIT,
-        EIGHT_REGIONS,
-        PATROL,
-        LIVES,
-        HELD,
-    ];
-    for lines in scripts {
-        Scene::new(alloc).play(&rt, alloc, lines)?;
-    }
-    Ok(())
-}
-
-#[test]
-fn the_steps_of_a_repair_are_sent(rt: HostRuntime) -> Result<(), Fail> {
-    let alloc = rt.alloc();
-    let mut scene = Scene::new(alloc);
-    scene.play(&rt, alloc, REPAIR)?;
-    let sends = scene.sends(alloc)?;
-    assert_eq!(rt; sends.as_str(), REPAIR_SENDS);
-    Ok(())
-}
-
 // An outdated driver's plans have no ids: the check's own, and the first of the patrol, which stops there
 // and looks no further for one.
-const TWO_PLANS: &str = "\
+const WITHOUT_IDS: &str = "\
 term 1 1000 => term 1 stores 0 rules 1
 hello 1 1000 s1 => store put
 hello 2 1000 s2 => store put
 hello 3 1000 s3 => store put
 beat 1000 2 - 40 1 1 21 21:1:v,22:2:v => accepted removed 0 none
 beat 1000 3 40 - 1 1 31 31:1:v,32:2:v,33:9:l => accepted removed 0 none
-";
-
-const WITHOUT_IDS: &str = "\
+outdate => outdated
 check 1000 2 => plan add-voter from 1 to 0 old-term 5
 patrol 1000 => patrol regions 2 ok 0 split 0 plan 2 no-plan 0 added 0 buried 0
+writes => (1 lead 1)(1 put store/00000000000000000001 0 Accepted { revision: 1 })(1 put store/00000000000000000002 0 Accepted { revision: 2 })(1 put store/00000000000000000003 0 Accepted { revision: 3 })(2 lead 5)(1 put id 0 OldTerm { fence: 5 })(1 put id 0 OldTerm { fence: 5 })
 ";
-
-#[test]
-fn an_outdated_driver_has_no_ids(rt: HostRuntime) -> Result<(), Fail> {
-    let alloc = rt.alloc();
-    let mut scene = Scene::new(alloc);
-    scene.play(&rt, alloc, TWO_PLANS)?;
-    scene.outdate()?;
-    scene.play(&rt, alloc, WITHOUT_IDS)?;
-    // The lead, three stores, the other lead, and one write of `id` for each of the two requests.
-    assert_eq!(rt; scene.meta.journal().len(), 7);
-    Ok(())
-}
 
 // An Offline store is buried where no region has a peer on it and the regions leave no key out; a
 // buried store is a tombstone then, also for the next term.
 const BURIAL: &str = "\
+keep store/00000000000000000008 offline a - => kept
+keep store/00000000000000000009 offline a - => kept
 term 2 1000 => term 2 stores 2 rules 1
 hello 1 1000 s1 => store put
 patrol 1000 => patrol regions 0 ok 0 split 0 plan 0 no-plan 0 added 0 buried 0
@@ -231,71 +178,24 @@ term 3 1000 => term 3 stores 3 rules 1
 hello 9 1000 s9 => tombstone
 ";
 
+// Each script by itself.
 #[test]
-fn a_store_without_peers_is_buried(rt: HostRuntime) -> Result<(), Fail> {
+fn checks_and_patrols_are_answered(rt: HostRuntime) -> Result<(), Fail> {
     let alloc = rt.alloc();
-    let mut scene = Scene::new(alloc);
-    for store in [8, 9] {
-        let key = store_key(alloc, store)?;
-        scene.keep(key.as_slice(), b"offline a -")?;
-    }
-    scene.play(&rt, alloc, BURIAL)?;
-    Ok(())
-}
-
-// Three voters, whose stores said hello at 1000.
-const THREE_VOTERS: &str = "\
-term 1 1000 => term 1 stores 0 rules 1
-hello 1 1000 a1 => store put
-hello 2 1000 a2 => store put
-hello 3 1000 a3 => store put
-beat 1000 7 - - 1 1 11 11:1:v,12:2:v,13:3:v => accepted removed 0 none
-";
-
-// What comes of an operator by hand that removes the peer 13, added and dispatched at the clock.
-fn removal(alloc: Global, part: &Part) -> Result<Dispatch, Fail> {
-    let Some(beat) = part.standing.regions().by_id(7) else {
-        return Err(Fail::new("the region isn't held"));
-    };
-    let mut steps = Steps::new(alloc);
-    steps.push(Step::RemovePeer { peer: 13, store: 3 })?;
-    let op = NewOp {
-        region: 7,
-        epoch: beat.region.epoch,
-        steps,
-        kind: text(alloc, "admin")?,
-        priority: 3,
-    };
-    let mut limits = Limits::new(alloc);
-    limits.know(3, part.clock)?;
-    let mut operators = Operators::new(alloc);
-    operators.add(op, Some(beat), &mut limits, part.clock)?;
-    Ok(operators.dispatch(beat, &part.stores, part.clock))
-}
-
-// The worked row of the gate: stores are live for 20 seconds. Where the first store alone is heard
-// again, the removal is sent at 21000, and held one millisecond later, as one voter of three is live.
-#[test]
-fn a_removal_is_held_by_the_clock(rt: HostRuntime) -> Result<(), Fail> {
-    let alloc = rt.alloc();
-    let held = Held {
-        live: 1,
-        voters: 3,
-        why: Why::Before,
-    };
-    let sent = Dispatch::Send(Step::RemovePeer { peer: 13, store: 3 });
-    let rows = [
-        ("alive 1 21000 => alive", sent),
-        ("alive 1 21001 => alive", Dispatch::Wait(held)),
+    let scripts = [
+        REPAIR,
+        THREE_MISFITS,
+        NO_FIT,
+        SPLIT,
+        EIGHT_REGIONS,
+        PATROL,
+        LIVES,
+        HELD,
+        WITHOUT_IDS,
+        BURIAL,
     ];
-    for (alive, wanted) in rows {
-        let mut scene = Scene::new(alloc);
-        scene.play(&rt, alloc, THREE_VOTERS)?;
-        scene.play(&rt, alloc, alive)?;
-        let Some(part) = scene.cluster.part() else {
-            return Err(Fail::new("the cluster has no term"));
-        };
-        assert_eq!(rt; removal(alloc, part)?, wanted, "{alive}");
+    for lines in scripts {
+        Scene::new(alloc).play(&rt, alloc, lines)?;
     }
     Ok(())
 }

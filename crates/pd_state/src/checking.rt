@@ -7,7 +7,7 @@ ghost use Rattle.pd_state.specs.Adding.{around_of, planning_of, replanned};
 ghost use Rattle.pd_state.specs.Asking.{ear};
 ghost use Rattle.pd_state.specs.Calls.{next_call};
 ghost use Rattle.pd_state.specs.Checking.{Does, IsShort, check_op, check_told};
-ghost use Rattle.pd_state.specs.Heard.{told_all};
+ghost use Rattle.pd_state.specs.Heard.{IsAlone, told_all};
 ghost use Rattle.pd_state.specs.Legal.{term_reply, term_sents};
 ghost use Rattle.pd_state.specs.Steps.{changed_part};
 
@@ -58,6 +58,7 @@ fn carry_out<M: Door>(
     requires serves { Serves (M.place door.old) driver }
     requires few { IsShort verdict }
     ensures does { IfOk result (λ done. Does (check_told (around_of part.old) beat.now (planning_of part.old) (tells verdict)) (planning_of part.new) part.new.stores done driver (ear [] part.old.known (M.said door.old) (M.told door.old)) (ear done.heard.answers part.new.known (M.said door.new) (M.told door.new))) }
+    ensures alone { IfOk result (λ done. IsAlone done.heard) }
     ensures rest { part.new ≡ replanned part.old (planning_of part.new) part.new.known }
     ensures place { M.place door.new ≡ M.place door.old }
 {
@@ -83,7 +84,7 @@ fn carry_out<M: Door>(
                 to,
                 adding,
             };
-            Ok(with_log(reply, log))
+            Ok(with_log(alloc, reply, log))
         }
     }
 }
@@ -98,9 +99,10 @@ pub fn check_region<M: Door>(
     door: &mut M,
 ) -> Result<Done, NoMemory>
     requires { Serves (M.place door.old) driver }
-    ensures reply { IfOk result (λ done. done.reply ≡ term_reply part.old (Request.Check moment region) done.heard) }
-    ensures asked { IfOk result (λ done. AreAsked (next_call (Some part.old) (Request.Check moment region)) [] done.heard.answers) }
+    ensures reply { IfOk result (λ done. done.reply ≡ term_reply driver part.old (Request.Check moment region) done.heard) }
+    ensures asked { IfOk result (λ done. AreAsked (next_call (Some part.old) (Request.Check moment region) []) [] done.heard.answers) }
     ensures after { IfOk result (λ done. part.new ≡ changed_part part.old (Request.Check moment region) done.reply done.heard) }
+    ensures alone { IfOk result (λ done. IsAlone done.heard) }
     ensures sents { IfOk result (λ done. done.sents ≡ term_sents part.old (Request.Check moment region) done.reply done.heard) }
     ensures said { IfOk result (λ done. M.said door.new ≡ M.said door.old ++ done.heard.answers) }
     ensures told { IfOk result (λ done. M.told door.new ≡ told_all (M.told door.old) driver done.heard.answers) }

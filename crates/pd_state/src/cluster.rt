@@ -10,6 +10,7 @@ use crate::serve::step;
 use crate::{Entry, Journal, Part, Reply};
 use meta_store::Door;
 use pd_types::{Actor, Duplicate, NoMemory, Request};
+use sched_api::Seated;
 use std::alloc::Global;
 use std::marker::Model;
 
@@ -65,19 +66,20 @@ impl Cluster {
         }
     }
 
-    /// Serves one request over the metadata's door, which serves this driver, and appends its entry;
-    /// the reply is the first that applies over the entries before it and what the door answered.
-    /// After want of memory no entry was appended, and every later call answers it too; what the
-    /// door did stays done.
-    pub fn serve<M: Door>(
+    /// Serves one request over the metadata's door, which serves this driver, and the bench of
+    /// schedulers that is its, and appends its entry; the reply is the first that applies over the
+    /// entries before it and what the door and the bench answered. After want of memory no entry was
+    /// appended, and every later call answers it too; what the door and the bench did stays done.
+    pub fn serve<M: Door, B: Seated>(
         &mut self,
         actor: Actor,
         line: u32,
         request: Request,
         door: &mut M,
+        bench: &mut B,
     ) -> Result<Reply, NoMemory>
         requires { Serves (M.place door.old) self.old.driver }
-        ensures ok { IfOk result (λ reply. Served self.old self.new (record { said_old = M.said door.old; said_new = M.said door.new; told_old = M.told door.old; told_new = M.told door.new }) actor line request reply) }
+        ensures ok { IfOk result (λ reply. Served self.old self.new (record { said_old = M.said door.old; said_new = M.said door.new; told_old = M.told door.old; told_new = M.told door.new }) (B.seats bench.old) (B.seats bench.new) actor line request reply) }
         ensures err { OnErr result (Died self.old self.new) }
         ensures place { M.place door.new ≡ M.place door.old }
     {
@@ -95,8 +97,19 @@ impl Cluster {
             reply,
             heard,
             sents,
-        } = step(self.alloc, self.driver, &mut self.part, &request, door)?;
-        let Heard { answers } = heard;
+        } = step(
+            self.alloc,
+            self.driver,
+            &mut self.part,
+            &request,
+            door,
+            bench,
+        )?;
+        let Heard {
+            answers,
+            bench: said,
+            names,
+        } = heard;
         let sends = messages(self.alloc, self.driver, term, entry, &sents)?;
         let answered = reply.copy(self.alloc)?;
         self.entries.push(Entry {
@@ -104,6 +117,8 @@ impl Cluster {
             line,
             request,
             answers,
+            bench: said,
+            names,
             sends,
             reply,
         })?;
@@ -125,6 +140,7 @@ impl Cluster {
     pub fn part(&self) -> Option<&Part>
         ensures value { self.now.dead ≡ false → option_copied result ≡ self.now.part }
         ensures ended { self.now.dead ≡ true → option_copied result ≡ None }
+        ensures replays { Replays self.now }
     {
         if self.dead {
             return None;

@@ -1,4 +1,4 @@
-ghost use Rattle.std.specs.Prelude.{◌≡◌, ◌≢◌, ◌<◌, ◌≤◌, ◌++◌, ◌∷◌, ℕ, List, [], Option, Some, None, Ok, Err, IfSome, All, codes, length, reverse};
+ghost use Rattle.std.specs.Prelude.{◌≡◌, ◌≢◌, ◌<◌, ◌≤◌, ◌++◌, ◌∷◌, ℕ, List, [], Option, true, false, Some, None, Ok, Err, IfSome, All, codes, length, reverse};
 ghost use Rattle.std.specs.List.{Any};
 ghost use Rattle.pd_types.specs.declared.region.RegionBeat.{RegionBeat};
 ghost use Rattle.pd_types.specs.declared.request.Request.TheVariants as ask;
@@ -29,9 +29,11 @@ ghost use Rattle.rule_set.specs.Changes.{default_rule};
 ghost use Rattle.rule_text.specs.declared.fault.RuleFault.{RuleFault};
 ghost use Rattle.rule_text.specs.declared.fault.RuleFault.TheVariants.{NoMemory};
 ghost use Rattle.rule_text.specs.Tests.{Means, RefusedText};
+ghost use Rattle.sched_api.specs.declared.scheduler.Said.{Said};
 ghost use Rattle.pd_state.specs.Calls.{AreCalls, next_call};
+ghost use Rattle.pd_state.specs.Ctl.{resigns};
 ghost use Rattle.pd_state.specs.HandedOut.{or_default, rules_told, store_in, stores_told};
-ghost use Rattle.pd_state.specs.Heard.{answers_of, handed_out};
+ghost use Rattle.pd_state.specs.Heard.{answers_of, handed_out, hears};
 ghost use Rattle.pd_state.specs.Known.{AreKnown, AreRulesTold, AreTold, BeginsAnew};
 ghost use Rattle.pd_state.specs.StoredRules.{rule_in, rule_key, rule_told};
 ghost use Rattle.pd_state.specs.Legal.{first_reply, IsLegal, IsLegalAfter};
@@ -80,10 +82,12 @@ pub fn the_clock_is_the_greatest_moment()
         moment_of (ask.Unrule moment group id) ≡ moment }
     ensures check { (moment region : ℕ) → moment_of (ask.Check moment region) ≡ moment }
     ensures patrol { (moment workers : ℕ) → moment_of (ask.Patrol moment workers) ≡ moment }
+    ensures schedule { (moment : ℕ) → moment_of (ask.Schedule moment) ≡ moment }
+    ensures ctl { (moment : ℕ) (words : List ℕ) → moment_of (ask.Ctl moment words) ≡ moment }
 {}
 
-/// Every request but a Term and a Retire counts in the term that it is served in, refused or not,
-/// behind those before it.
+/// Every request but a Term, a Retire and pd-ctl's command to resign counts in the term that it is
+/// served in, refused or not, behind those before it.
 pub fn a_request_counts_in_its_term()
     ensures hello { (past entries : List Entry) (entry : Entry) (store moment : ℕ) (address : List ℕ) (labels : List Label) →
         since past ≡ Some entries → entry.request ≡ ask.Hello store moment address labels → since (entry ∷ past) ≡ Some (entry ∷ entries) }
@@ -99,10 +103,14 @@ pub fn a_request_counts_in_its_term()
         since past ≡ Some entries → entry.request ≡ ask.Check moment region → since (entry ∷ past) ≡ Some (entry ∷ entries) }
     ensures patrol { (past entries : List Entry) (entry : Entry) (moment workers : ℕ) →
         since past ≡ Some entries → entry.request ≡ ask.Patrol moment workers → since (entry ∷ past) ≡ Some (entry ∷ entries) }
+    ensures schedule { (past entries : List Entry) (entry : Entry) (moment : ℕ) →
+        since past ≡ Some entries → entry.request ≡ ask.Schedule moment → since (entry ∷ past) ≡ Some (entry ∷ entries) }
+    ensures ctl { (past entries : List Entry) (entry : Entry) (moment : ℕ) (words : List ℕ) → resigns words ≡ false →
+        since past ≡ Some entries → entry.request ≡ ask.Ctl moment words → since (entry ∷ past) ≡ Some (entry ∷ entries) }
 {}
 
 /// A Term that is accepted begins anew, at its own moment, with what it was handed; after one that is
-/// refused, and after a Retire, there is no term.
+/// refused, and after a Retire and pd-ctl's command to resign, there is no term.
 pub fn a_term_begins_anew()
     ensures begins { (past : List Entry) (entry : Entry) (term moment number stores rules : ℕ) →
         entry.request ≡ ask.Term term moment → entry.reply ≡ replies.Term number stores rules →
@@ -118,32 +126,38 @@ pub fn a_term_begins_anew()
         part_after (entry ∷ past) ≡ None }
     ensures ends { (past : List Entry) (entry : Entry) → entry.request ≡ ask.Retire →
         part_after (entry ∷ past) ≡ None }
+    ensures resigned { (past : List Entry) (entry : Entry) (moment : ℕ) (words : List ℕ) → resigns words ≡ true →
+        entry.request ≡ ask.Ctl moment words → part_after (entry ∷ past) ≡ None }
 {}
 
 /// A Term tells how many stores and rules it begins with, alike with and without a term before it; a
 /// refused one tells why. Without a term nothing else is served.
 pub fn a_term_tells_its_stores_and_rules()
-    ensures accepted { (part : Option Part) (term moment revision : ℕ) (cells : List Cell) →
-        first_reply part (ask.Term term moment) (record { answers = answer_of (calls.Lead term) (verdicts.Accepted revision) cells ∷ [] })
+    ensures accepted { (driver : ℕ) (part : Option Part) (term moment revision : ℕ) (cells : List Cell) →
+        first_reply driver part (ask.Term term moment) (hears (answer_of (calls.Lead term) (verdicts.Accepted revision) cells ∷ []))
         ≡ replies.Term term (length (stores_told cells)) (length (or_default (rules_told cells))) }
-    ensures outdated { (part : Option Part) (term moment fence : ℕ) →
-        first_reply part (ask.Term term moment) (record { answers = answer_of (calls.Lead term) (verdicts.OldTerm fence) [] ∷ [] }) ≡ replies.OldTerm fence }
-    ensures full { (part : Option Part) (term moment : ℕ) →
-        first_reply part (ask.Term term moment) (record { answers = answer_of (calls.Lead term) verdicts.Limit [] ∷ [] }) ≡ replies.MetaLimit }
-    ensures empty { (part : Option Part) (term moment : ℕ) →
-        first_reply part (ask.Term term moment) (record { answers = answer_of (calls.Lead term) (verdicts.Accepted 0) [] ∷ [] }) ≡ replies.Term term 0 1 }
-    ensures hello { (store moment : ℕ) (address : List ℕ) (labels : List Label) (heard : Heard) →
-        first_reply None (ask.Hello store moment address labels) heard ≡ replies.NotLeading }
-    ensures alive { (store moment : ℕ) (heard : Heard) →
-        first_reply None (ask.Alive store moment) heard ≡ replies.NotLeading }
-    ensures beat { (store moment : ℕ) (beat : RegionBeat) (heard : Heard) →
-        first_reply None (ask.Beat store moment beat) heard ≡ replies.NotLeading }
-    ensures rule { (moment : ℕ) (json : List ℕ) (heard : Heard) →
-        first_reply None (ask.Rule moment json) heard ≡ replies.NotLeading }
-    ensures unrule { (moment : ℕ) (group id : List ℕ) (heard : Heard) →
-        first_reply None (ask.Unrule moment group id) heard ≡ replies.NotLeading }
-    ensures retire { (heard : Heard) → first_reply None ask.Retire heard ≡ replies.NotLeading }
-    ensures retires { (part : Part) (heard : Heard) → first_reply (Some part) ask.Retire heard ≡ replies.Retired }
+    ensures outdated { (driver : ℕ) (part : Option Part) (term moment fence : ℕ) →
+        first_reply driver part (ask.Term term moment) (hears (answer_of (calls.Lead term) (verdicts.OldTerm fence) [] ∷ [])) ≡ replies.OldTerm fence }
+    ensures full { (driver : ℕ) (part : Option Part) (term moment : ℕ) →
+        first_reply driver part (ask.Term term moment) (hears (answer_of (calls.Lead term) verdicts.Limit [] ∷ [])) ≡ replies.MetaLimit }
+    ensures empty { (driver : ℕ) (part : Option Part) (term moment : ℕ) →
+        first_reply driver part (ask.Term term moment) (hears (answer_of (calls.Lead term) (verdicts.Accepted 0) [] ∷ [])) ≡ replies.Term term 0 1 }
+    ensures hello { (driver : ℕ) (store moment : ℕ) (address : List ℕ) (labels : List Label) (heard : Heard) →
+        first_reply driver None (ask.Hello store moment address labels) heard ≡ replies.NotLeading }
+    ensures alive { (driver : ℕ) (store moment : ℕ) (heard : Heard) →
+        first_reply driver None (ask.Alive store moment) heard ≡ replies.NotLeading }
+    ensures beat { (driver : ℕ) (store moment : ℕ) (beat : RegionBeat) (heard : Heard) →
+        first_reply driver None (ask.Beat store moment beat) heard ≡ replies.NotLeading }
+    ensures rule { (driver : ℕ) (moment : ℕ) (json : List ℕ) (heard : Heard) →
+        first_reply driver None (ask.Rule moment json) heard ≡ replies.NotLeading }
+    ensures unrule { (driver : ℕ) (moment : ℕ) (group id : List ℕ) (heard : Heard) →
+        first_reply driver None (ask.Unrule moment group id) heard ≡ replies.NotLeading }
+    ensures schedule { (driver : ℕ) (moment : ℕ) (heard : Heard) →
+        first_reply driver None (ask.Schedule moment) heard ≡ replies.NotLeading }
+    ensures ctl { (driver : ℕ) (moment : ℕ) (words : List ℕ) (heard : Heard) →
+        first_reply driver None (ask.Ctl moment words) heard ≡ replies.NotLeading }
+    ensures retire { (driver : ℕ) (heard : Heard) → first_reply driver None ask.Retire heard ≡ replies.NotLeading }
+    ensures retires { (driver : ℕ) (part : Part) (heard : Heard) → first_reply driver (Some part) ask.Retire heard ≡ replies.Retired }
 {}
 
 /// The stores that a lead's records tell are those that they are read as, up to 256 of them.
@@ -187,13 +201,13 @@ pub fn who_is_heard()
 /// A hello that nothing refuses before is answered by the verdict on its write.
 pub fn a_hello_is_answered_as_it_was_written()
     ensures put { (state : Option StoreState) (known revision : ℕ) (call : MetaCall) → hello_refusal state known ≡ None →
-        hello_reply state known (record { answers = answer_of call (verdicts.Accepted revision) [] ∷ [] }) ≡ replies.StorePut }
+        hello_reply state known (hears (answer_of call (verdicts.Accepted revision) [] ∷ [])) ≡ replies.StorePut }
     ensures outdated { (state : Option StoreState) (known fence : ℕ) (call : MetaCall) → hello_refusal state known ≡ None →
-        hello_reply state known (record { answers = answer_of call (verdicts.OldTerm fence) [] ∷ [] }) ≡ replies.OldTerm fence }
+        hello_reply state known (hears (answer_of call (verdicts.OldTerm fence) [] ∷ [])) ≡ replies.OldTerm fence }
     ensures conflict { (state : Option StoreState) (known found : ℕ) (call : MetaCall) → hello_refusal state known ≡ None →
-        hello_reply state known (record { answers = answer_of call (verdicts.Conflict found) [] ∷ [] }) ≡ replies.Conflict found }
+        hello_reply state known (hears (answer_of call (verdicts.Conflict found) [] ∷ [])) ≡ replies.Conflict found }
     ensures full { (state : Option StoreState) (known : ℕ) (call : MetaCall) → hello_refusal state known ≡ None →
-        hello_reply state known (record { answers = answer_of call verdicts.Limit [] ∷ [] }) ≡ replies.MetaLimit }
+        hello_reply state known (hears (answer_of call verdicts.Limit [] ∷ [])) ≡ replies.MetaLimit }
 {}
 
 /// The calls of each request, but for those of `the_calls_of_a_rule` and `the_calls_of_a_removal`. A
@@ -202,34 +216,38 @@ pub fn a_hello_is_answered_as_it_was_written()
 /// term.
 pub fn the_calls_of_each_request()
     ensures term { (part : Option Part) (term moment : ℕ) (answers : List MetaAnswer) →
-        AreAsked (next_call part (ask.Term term moment)) [] answers → AreCalls (calls.Lead term ∷ []) answers }
+        AreAsked (next_call part (ask.Term term moment) []) [] answers → AreCalls (calls.Lead term ∷ []) answers }
     ensures hello { (part : Part) (store moment : ℕ) (address : List ℕ) (labels : List Label) (answers : List MetaAnswer) →
-        AreAsked (next_call (Some part) (ask.Hello store moment address labels)) [] answers →
+        AreAsked (next_call (Some part) (ask.Hello store moment address labels) []) [] answers →
         entry_at store part.stores ≡ None → length part.stores < 256 →
         AreCalls (calls.Put part.term (store_key store) (revision_in (cell_at (store_key store) part.known)) (store_bytes (record { id = store; address = address; labels = labels; state = states.Up })) ∷ []) answers }
     ensures again { (part : Part) (store moment : ℕ) (address : List ℕ) (labels : List Label) (known : StoreEntry) (answers : List MetaAnswer) →
-        AreAsked (next_call (Some part) (ask.Hello store moment address labels)) [] answers →
+        AreAsked (next_call (Some part) (ask.Hello store moment address labels) []) [] answers →
         entry_at store part.stores ≡ Some known → known.store.state ≢ states.Tombstone →
         AreCalls (calls.Put part.term (store_key store) (revision_in (cell_at (store_key store) part.known)) (store_bytes (record { id = store; address = address; labels = labels; state = known.store.state })) ∷ []) answers }
     ensures refused { (part : Part) (store moment : ℕ) (address : List ℕ) (labels : List Label) (reply : Reply) (answers : List MetaAnswer) →
-        AreAsked (next_call (Some part) (ask.Hello store moment address labels)) [] answers →
+        AreAsked (next_call (Some part) (ask.Hello store moment address labels) []) [] answers →
         hello_refusal (state_at store part.stores) (length part.stores) ≡ Some reply → answers ≡ [] }
     ensures alive { (part : Option Part) (store moment : ℕ) (answers : List MetaAnswer) →
-        AreAsked (next_call part (ask.Alive store moment)) [] answers → answers ≡ [] }
+        AreAsked (next_call part (ask.Alive store moment) []) [] answers → answers ≡ [] }
     ensures beat { (part : Option Part) (store moment : ℕ) (beat : RegionBeat) (answers : List MetaAnswer) →
-        AreAsked (next_call part (ask.Beat store moment beat)) [] answers → answers ≡ [] }
+        AreAsked (next_call part (ask.Beat store moment beat) []) [] answers → answers ≡ [] }
     ensures retire { (part : Option Part) (answers : List MetaAnswer) →
-        AreAsked (next_call part ask.Retire) [] answers → answers ≡ [] }
+        AreAsked (next_call part ask.Retire []) [] answers → answers ≡ [] }
     ensures without { (store moment : ℕ) (address : List ℕ) (labels : List Label) (answers : List MetaAnswer) →
-        AreAsked (next_call None (ask.Hello store moment address labels)) [] answers → answers ≡ [] }
+        AreAsked (next_call None (ask.Hello store moment address labels) []) [] answers → answers ≡ [] }
     ensures rule { (moment : ℕ) (json : List ℕ) (answers : List MetaAnswer) →
-        AreAsked (next_call None (ask.Rule moment json)) [] answers → answers ≡ [] }
+        AreAsked (next_call None (ask.Rule moment json) []) [] answers → answers ≡ [] }
     ensures unrule { (moment : ℕ) (group id : List ℕ) (answers : List MetaAnswer) →
-        AreAsked (next_call None (ask.Unrule moment group id)) [] answers → answers ≡ [] }
+        AreAsked (next_call None (ask.Unrule moment group id) []) [] answers → answers ≡ [] }
     ensures check { (moment region : ℕ) (answers : List MetaAnswer) →
-        AreAsked (next_call None (ask.Check moment region)) [] answers → answers ≡ [] }
+        AreAsked (next_call None (ask.Check moment region) []) [] answers → answers ≡ [] }
     ensures patrol { (moment workers : ℕ) (answers : List MetaAnswer) →
-        AreAsked (next_call None (ask.Patrol moment workers)) [] answers → answers ≡ [] }
+        AreAsked (next_call None (ask.Patrol moment workers) []) [] answers → answers ≡ [] }
+    ensures schedule { (moment : ℕ) (said : List Said) (answers : List MetaAnswer) →
+        AreAsked (next_call None (ask.Schedule moment) said) [] answers → answers ≡ [] }
+    ensures ctl { (moment : ℕ) (words : List ℕ) (answers : List MetaAnswer) →
+        AreAsked (next_call None (ask.Ctl moment words) []) [] answers → answers ≡ [] }
 {}
 
 /// The revision that a term knows of a key is that of the last accepted write of it that the term
@@ -277,6 +295,10 @@ pub fn a_store_is_heard_by_hello_and_alive()
         heartbeat_by (ask.Check moment region) reply store before ≡ before }
     ensures patrol { (store moment workers : ℕ) (reply : Reply) (before : Option ℕ) →
         heartbeat_by (ask.Patrol moment workers) reply store before ≡ before }
+    ensures schedule { (store moment : ℕ) (reply : Reply) (before : Option ℕ) →
+        heartbeat_by (ask.Schedule moment) reply store before ≡ before }
+    ensures ctl { (store moment : ℕ) (words : List ℕ) (reply : Reply) (before : Option ℕ) →
+        heartbeat_by (ask.Ctl moment words) reply store before ≡ before }
     ensures began { (entries : List Entry) →
         All (λ store. store.began ≡ began_of entries) (part_of entries).stores }
 {}

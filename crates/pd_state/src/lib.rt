@@ -8,6 +8,11 @@ mod check_laws;
 mod check_tests;
 mod checking;
 mod cluster;
+mod ctl;
+mod ctl_changes;
+mod ctl_reports;
+#[cfg(test)]
+mod ctl_tests;
 mod entry;
 mod handed;
 mod heard;
@@ -19,6 +24,7 @@ mod planning;
 mod reply;
 mod rule_laws;
 mod rules;
+mod scheduling;
 #[cfg(test)]
 mod scripts;
 mod sent;
@@ -26,6 +32,7 @@ mod serve;
 mod stores;
 #[cfg(test)]
 mod tests;
+mod wishing;
 mod write;
 
 pub use adding::Adding;
@@ -35,6 +42,7 @@ pub use check_laws::{
 };
 pub use checking::CHECK_PRIORITY;
 pub use cluster::Cluster;
+pub use ctl_changes::ADMIN_PRIORITY;
 pub use entry::{Entry, Journal};
 pub use heard::Heard;
 pub use laws::{
@@ -52,3 +60,4 @@ pub use rule_laws::{
     the_numbers_of_a_rules_faults, what_a_rule_leaves_alone, what_is_left_of_the_rules,
     what_is_stored_of_a_rule,
 };
+pub use scheduling::SCHEDULER_PRIORITY;

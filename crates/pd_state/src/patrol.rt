@@ -7,7 +7,7 @@ ghost use Rattle.pd_state.specs.Adding.{around_of, planning_of, replanned};
 ghost use Rattle.pd_state.specs.Asking.{Talks, ear};
 ghost use Rattle.pd_state.specs.Calls.{next_call};
 ghost use Rattle.pd_state.specs.Checking.{AreCounts, Round as Rounds, no_survey, round_at, survey_more, surveyed, sweep, tallied, visit};
-ghost use Rattle.pd_state.specs.Heard.{told_all};
+ghost use Rattle.pd_state.specs.Heard.{IsAlone, told_all};
 ghost use Rattle.pd_state.specs.Legal.{term_reply, term_sents};
 ghost use Rattle.pd_state.specs.Steps.{changed_part};
 ghost use Rattle.op_control.specs.Table.{active_at};
@@ -129,7 +129,7 @@ fn tally(round: Round, adding: Adding) -> Round
             added: round.added + 1,
             stopped: false,
         },
-        Adding::Add(_) => round,
+        Adding::Build(_) | Adding::Add(_) => round,
         Adding::OldTerm { .. } | Adding::Conflict { .. } | Adding::MetaLimit | Adding::IdsSpent => {
             Round {
                 added: round.added,
@@ -201,9 +201,10 @@ pub fn patrol<M: Door>(
     door: &mut M,
 ) -> Result<Done, NoMemory>
     requires { Serves (M.place door.old) driver }
-    ensures reply { IfOk result (λ done. done.reply ≡ term_reply part.old (Request.Patrol moment workers) done.heard) }
-    ensures asked { IfOk result (λ done. AreAsked (next_call (Some part.old) (Request.Patrol moment workers)) [] done.heard.answers) }
+    ensures reply { IfOk result (λ done. done.reply ≡ term_reply driver part.old (Request.Patrol moment workers) done.heard) }
+    ensures asked { IfOk result (λ done. AreAsked (next_call (Some part.old) (Request.Patrol moment workers) []) [] done.heard.answers) }
     ensures after { IfOk result (λ done. part.new ≡ changed_part part.old (Request.Patrol moment workers) done.reply done.heard) }
+    ensures alone { IfOk result (λ done. IsAlone done.heard) }
     ensures sents { IfOk result (λ done. done.sents ≡ term_sents part.old (Request.Patrol moment workers) done.reply done.heard) }
     ensures said { IfOk result (λ done. M.said door.new ≡ M.said door.old ++ done.heard.answers) }
     ensures told { IfOk result (λ done. M.told door.new ≡ told_all (M.told door.old) driver done.heard.answers) }
@@ -225,5 +226,5 @@ pub fn patrol<M: Door>(
         added: round.added,
         buried: burial.buried,
     };
-    Ok(with_log(reply, log))
+    Ok(with_log(alloc, reply, log))
 }

@@ -5,7 +5,7 @@ ghost use Rattle.meta_store.specs.Doors.{Serves};
 ghost use Rattle.rule_set.specs.Changes.{set_refusal};
 ghost use Rattle.rule_set.specs.RuleSets.{HasFewLocations};
 ghost use Rattle.pd_state.specs.Calls.{default_put, in_turn, next_call, rule_delete, rule_put, told_calls};
-ghost use Rattle.pd_state.specs.Heard.{known_after, told_all};
+ghost use Rattle.pd_state.specs.Heard.{IsAlone, known_after, told_all};
 ghost use Rattle.pd_state.specs.Legal.{term_reply};
 ghost use Rattle.pd_state.specs.Replies.{by_answers};
 ghost use Rattle.pd_state.specs.State.{set_by};
@@ -88,6 +88,7 @@ fn set_rule<M: Door>(
     ensures reply { IfOk result (λ done. done.reply ≡ by_answers Reply.RulePut done.heard.answers) }
     ensures asked { IfOk result (λ done. AreAsked (in_turn (told_calls part.old (Ok rule))) [] done.heard.answers) }
     ensures after { IfOk result (λ done. part.new ≡ record part.old { rules = set_by done.reply (Ok rule) part.old.rules; known = known_after done.heard.answers part.old.known }) }
+    ensures alone { IfOk result (λ done. IsAlone done.heard) }
     ensures sents { IfOk result (λ done. done.sents ≡ []) }
     ensures said { IfOk result (λ done. M.said door.new ≡ M.said door.old ++ done.heard.answers) }
     ensures told { IfOk result (λ done. M.told door.new ≡ told_all (M.told door.old) driver done.heard.answers) }
@@ -116,9 +117,10 @@ pub fn rule<M: Door>(
     door: &mut M,
 ) -> Result<Done, NoMemory>
     requires { Serves (M.place door.old) driver }
-    ensures reply { IfOk result (λ done. done.reply ≡ term_reply part.old (Request.Rule moment json.now) done.heard) }
-    ensures asked { IfOk result (λ done. AreAsked (next_call (Some part.old) (Request.Rule moment json.now)) [] done.heard.answers) }
+    ensures reply { IfOk result (λ done. done.reply ≡ term_reply driver part.old (Request.Rule moment json.now) done.heard) }
+    ensures asked { IfOk result (λ done. AreAsked (next_call (Some part.old) (Request.Rule moment json.now) []) [] done.heard.answers) }
     ensures after { IfOk result (λ done. part.new ≡ changed_part part.old (Request.Rule moment json.now) done.reply done.heard) }
+    ensures alone { IfOk result (λ done. IsAlone done.heard) }
     ensures sents { IfOk result (λ done. done.sents ≡ []) }
     ensures said { IfOk result (λ done. M.said door.new ≡ M.said door.old ++ done.heard.answers) }
     ensures told { IfOk result (λ done. M.told door.new ≡ told_all (M.told door.old) driver done.heard.answers) }
@@ -146,9 +148,10 @@ pub fn unrule<M: Door>(
     door: &mut M,
 ) -> Result<Done, NoMemory>
     requires { Serves (M.place door.old) driver }
-    ensures reply { IfOk result (λ done. done.reply ≡ term_reply part.old (Request.Unrule moment group.now id.now) done.heard) }
-    ensures asked { IfOk result (λ done. AreAsked (next_call (Some part.old) (Request.Unrule moment group.now id.now)) [] done.heard.answers) }
+    ensures reply { IfOk result (λ done. done.reply ≡ term_reply driver part.old (Request.Unrule moment group.now id.now) done.heard) }
+    ensures asked { IfOk result (λ done. AreAsked (next_call (Some part.old) (Request.Unrule moment group.now id.now) []) [] done.heard.answers) }
     ensures after { IfOk result (λ done. part.new ≡ changed_part part.old (Request.Unrule moment group.now id.now) done.reply done.heard) }
+    ensures alone { IfOk result (λ done. IsAlone done.heard) }
     ensures sents { IfOk result (λ done. done.sents ≡ []) }
     ensures said { IfOk result (λ done. M.said door.new ≡ M.said door.old ++ done.heard.answers) }
     ensures told { IfOk result (λ done. M.told door.new ≡ told_all (M.told door.old) driver done.heard.answers) }

@@ -4,11 +4,11 @@ ghost use Rattle.pd_state.specs.ReplyText.{reply_text, rule_fault_number};
 
 use crate::adding::{Adding, DispatchText, KeyText, class_text};
 use op_control::Dispatch;
-use pd_types::{BeatFault, Bytes, Duplicate, Epoch, NoMemory};
+use pd_types::{BeatFault, Bytes, Duplicate, Epoch, NoMemory, Proposal, Text};
 use rule_checker::Class;
 use rule_text::RuleFault;
 use std::alloc::Global;
-use std::fmt;
+use std::{fmt, str};
 
 /// What a cluster answers to a request. It prints as the answer's text.
 #[derive(Debug, Drop, PartialEq)]
@@ -95,6 +95,22 @@ pub enum Reply {
         no_plan: u64,
         added: u64,
         buried: u64,
+    },
+    /// The bench has no scheduler.
+    NoScheduler,
+    /// The scheduler of this name proposes nothing.
+    Silent {
+        name: Text,
+    },
+    /// The scheduler of this name proposed this; and what came of adding its operator.
+    Proposed {
+        name: Text,
+        proposal: Proposal,
+        adding: Adding,
+    },
+    /// The report of a command of pd-ctl, in one line of JSON.
+    Report {
+        json: Bytes,
     },
 }
 
@@ -211,6 +227,23 @@ impl fmt::Display for Reply {
                 )?;
                 write!(f, " no-plan {no_plan} added {added} buried {buried}")
             }
+            Reply::NoScheduler => write!(f, "no-scheduler"),
+            Reply::Silent { name } => {
+                let name = name.as_str();
+                write!(f, "scheduler {name} none")
+            }
+            Reply::Proposed {
+                name,
+                proposal,
+                adding,
+            } => {
+                let name = name.as_str();
+                write!(f, "scheduler {name} {proposal} {adding}")
+            }
+            // JSON is UTF-8.
+            Reply::Report { json } => {
+                f.write_str(str::from_utf8(json.as_slice()).map_err(|_| fmt::Error)?)
+            }
         }
     }
 }
@@ -283,6 +316,22 @@ impl Duplicate for Reply {
                 no_plan: *no_plan,
                 added: *added,
                 buried: *buried,
+            },
+            Reply::NoScheduler => Reply::NoScheduler,
+            Reply::Silent { name } => Reply::Silent {
+                name: name.copy(alloc)?,
+            },
+            Reply::Proposed {
+                name,
+                proposal,
+                adding,
+            } => Reply::Proposed {
+                name: name.copy(alloc)?,
+                proposal: *proposal,
+                adding: *adding,
+            },
+            Reply::Report { json } => Reply::Report {
+                json: json.copy(alloc)?,
             },
         })
     }

@@ -24,6 +24,7 @@ ghost use Rattle.pd_state.specs.Calls.{AreCalls, next_call};
 ghost use Rattle.pd_state.specs.Legal.{first_reply};
 ghost use Rattle.pd_state.specs.ReplyText.{rule_fault_number};
 ghost use Rattle.pd_state.specs.State.{part_of};
+ghost use Rattle.pd_state.specs.Heard.{hears};
 ghost use Rattle.pd_state.specs.StoredRules.{rule_key, rule_told};
 ghost use Rattle.pd_state.specs.declared.entry.Entry.{Entry};
 ghost use Rattle.pd_state.specs.declared.heard.Heard.{Heard};
@@ -33,45 +34,45 @@ ghost use Rattle.pd_state.specs.declared.reply.Reply.TheVariants as replies;
 /// A rule whose text fails a test is answered by it, whatever else holds; a rule of a new name is
 /// refused at 64 rules, and no other is; then the first refused call decides, and else it is set.
 pub fn how_a_rule_is_answered()
-    ensures bad { (part : Part) (moment : ℕ) (json : List ℕ) (fault : RuleFault) (heard : Heard) →
+    ensures bad { (driver : ℕ) (part : Part) (moment : ℕ) (json : List ℕ) (fault : RuleFault) (heard : Heard) →
         RefusedText json fault → fault ≢ faults.NoMemory →
-        first_reply (Some part) (ask.Rule moment json) heard ≡ replies.BadRule fault }
-    ensures limit { (part : Part) (moment : ℕ) (json : List ℕ) (rule : Rule) (heard : Heard) → Means json rule →
-        (first_reply (Some part) (ask.Rule moment json) heard ≡ replies.RuleLimit)
+        first_reply driver (Some part) (ask.Rule moment json) heard ≡ replies.BadRule fault }
+    ensures limit { (driver : ℕ) (part : Part) (moment : ℕ) (json : List ℕ) (rule : Rule) (heard : Heard) → Means json rule →
+        (first_reply driver (Some part) (ask.Rule moment json) heard ≡ replies.RuleLimit)
         ↔ ((knows rule.group rule.id part.rules ≡ false) × (64 ≤ length part.rules)) }
-    ensures put { (part : Part) (moment : ℕ) (json : List ℕ) (rule : Rule) (heard : Heard) → Means json rule →
+    ensures put { (driver : ℕ) (part : Part) (moment : ℕ) (json : List ℕ) (rule : Rule) (heard : Heard) → Means json rule →
         set_refusal rule part.rules ≡ None → All (λ answer. is_accepted answer.verdict ≡ true) heard.answers →
-        first_reply (Some part) (ask.Rule moment json) heard ≡ replies.RulePut }
-    ensures outdated { (part : Part) (moment fence : ℕ) (json : List ℕ) (rule : Rule) (before : List MetaAnswer) (call : MetaCall) →
+        first_reply driver (Some part) (ask.Rule moment json) heard ≡ replies.RulePut }
+    ensures outdated { (driver : ℕ) (part : Part) (moment fence : ℕ) (json : List ℕ) (rule : Rule) (before : List MetaAnswer) (call : MetaCall) →
         Means json rule → set_refusal rule part.rules ≡ None → All (λ answer. is_accepted answer.verdict ≡ true) before →
-        first_reply (Some part) (ask.Rule moment json) (record { answers = before ++ answer_of call (verdicts.OldTerm fence) [] ∷ [] }) ≡ replies.OldTerm fence }
-    ensures conflict { (part : Part) (moment found : ℕ) (json : List ℕ) (rule : Rule) (before : List MetaAnswer) (call : MetaCall) →
+        first_reply driver (Some part) (ask.Rule moment json) (hears (before ++ answer_of call (verdicts.OldTerm fence) [] ∷ [])) ≡ replies.OldTerm fence }
+    ensures conflict { (driver : ℕ) (part : Part) (moment found : ℕ) (json : List ℕ) (rule : Rule) (before : List MetaAnswer) (call : MetaCall) →
         Means json rule → set_refusal rule part.rules ≡ None → All (λ answer. is_accepted answer.verdict ≡ true) before →
-        first_reply (Some part) (ask.Rule moment json) (record { answers = before ++ answer_of call (verdicts.Conflict found) [] ∷ [] }) ≡ replies.Conflict found }
-    ensures full { (part : Part) (moment : ℕ) (json : List ℕ) (rule : Rule) (before : List MetaAnswer) (call : MetaCall) →
+        first_reply driver (Some part) (ask.Rule moment json) (hears (before ++ answer_of call (verdicts.Conflict found) [] ∷ [])) ≡ replies.Conflict found }
+    ensures full { (driver : ℕ) (part : Part) (moment : ℕ) (json : List ℕ) (rule : Rule) (before : List MetaAnswer) (call : MetaCall) →
         Means json rule → set_refusal rule part.rules ≡ None → All (λ answer. is_accepted answer.verdict ≡ true) before →
-        first_reply (Some part) (ask.Rule moment json) (record { answers = before ++ answer_of call verdicts.Limit [] ∷ [] }) ≡ replies.MetaLimit }
+        first_reply driver (Some part) (ask.Rule moment json) (hears (before ++ answer_of call verdicts.Limit [] ∷ [])) ≡ replies.MetaLimit }
 {}
 
 /// A removal of a rule that isn't there is answered so, whatever else holds; then the only rule stays;
 /// then a refused deletion decides, and else the rule is removed, without a deletion too.
 pub fn how_a_removal_is_answered()
-    ensures absent { (part : Part) (moment : ℕ) (group id : List ℕ) (heard : Heard) → knows group id part.rules ≡ false →
-        first_reply (Some part) (ask.Unrule moment group id) heard ≡ replies.Absent }
-    ensures last { (part : Part) (moment : ℕ) (group id : List ℕ) (heard : Heard) → knows group id part.rules ≡ true →
-        length part.rules ≡ 1 → first_reply (Some part) (ask.Unrule moment group id) heard ≡ replies.LastRule }
-    ensures removed { (part : Part) (moment : ℕ) (group id : List ℕ) (heard : Heard) → knows group id part.rules ≡ true →
+    ensures absent { (driver : ℕ) (part : Part) (moment : ℕ) (group id : List ℕ) (heard : Heard) → knows group id part.rules ≡ false →
+        first_reply driver (Some part) (ask.Unrule moment group id) heard ≡ replies.Absent }
+    ensures last { (driver : ℕ) (part : Part) (moment : ℕ) (group id : List ℕ) (heard : Heard) → knows group id part.rules ≡ true →
+        length part.rules ≡ 1 → first_reply driver (Some part) (ask.Unrule moment group id) heard ≡ replies.LastRule }
+    ensures removed { (driver : ℕ) (part : Part) (moment : ℕ) (group id : List ℕ) (heard : Heard) → knows group id part.rules ≡ true →
         length part.rules ≢ 1 → All (λ answer. is_accepted answer.verdict ≡ true) heard.answers →
-        first_reply (Some part) (ask.Unrule moment group id) heard ≡ replies.RuleRemoved }
-    ensures outdated { (part : Part) (moment fence : ℕ) (group id : List ℕ) (call : MetaCall) → knows group id part.rules ≡ true →
+        first_reply driver (Some part) (ask.Unrule moment group id) heard ≡ replies.RuleRemoved }
+    ensures outdated { (driver : ℕ) (part : Part) (moment fence : ℕ) (group id : List ℕ) (call : MetaCall) → knows group id part.rules ≡ true →
         length part.rules ≢ 1 →
-        first_reply (Some part) (ask.Unrule moment group id) (record { answers = answer_of call (verdicts.OldTerm fence) [] ∷ [] }) ≡ replies.OldTerm fence }
-    ensures conflict { (part : Part) (moment found : ℕ) (group id : List ℕ) (call : MetaCall) → knows group id part.rules ≡ true →
+        first_reply driver (Some part) (ask.Unrule moment group id) (hears (answer_of call (verdicts.OldTerm fence) [] ∷ [])) ≡ replies.OldTerm fence }
+    ensures conflict { (driver : ℕ) (part : Part) (moment found : ℕ) (group id : List ℕ) (call : MetaCall) → knows group id part.rules ≡ true →
         length part.rules ≢ 1 →
-        first_reply (Some part) (ask.Unrule moment group id) (record { answers = answer_of call (verdicts.Conflict found) [] ∷ [] }) ≡ replies.Conflict found }
-    ensures full { (part : Part) (moment : ℕ) (group id : List ℕ) (call : MetaCall) → knows group id part.rules ≡ true →
+        first_reply driver (Some part) (ask.Unrule moment group id) (hears (answer_of call (verdicts.Conflict found) [] ∷ [])) ≡ replies.Conflict found }
+    ensures full { (driver : ℕ) (part : Part) (moment : ℕ) (group id : List ℕ) (call : MetaCall) → knows group id part.rules ≡ true →
         length part.rules ≢ 1 →
-        first_reply (Some part) (ask.Unrule moment group id) (record { answers = answer_of call verdicts.Limit [] ∷ [] }) ≡ replies.MetaLimit }
+        first_reply driver (Some part) (ask.Unrule moment group id) (hears (answer_of call verdicts.Limit [] ∷ [])) ≡ replies.MetaLimit }
 {}
 
 /// A rule that nothing refuses before is written at the revision that is known of its key: alone where
@@ -79,25 +80,25 @@ pub fn how_a_removal_is_answered()
 /// rule as the set has it.
 pub fn the_calls_of_a_rule()
     ensures bad { (part : Part) (moment : ℕ) (json : List ℕ) (fault : RuleFault) (answers : List MetaAnswer) →
-        AreAsked (next_call (Some part) (ask.Rule moment json)) [] answers →
+        AreAsked (next_call (Some part) (ask.Rule moment json) []) [] answers →
         RefusedText json fault → fault ≢ faults.NoMemory → answers ≡ [] }
     ensures limit { (part : Part) (moment : ℕ) (json : List ℕ) (rule : Rule) (answers : List MetaAnswer) →
-        AreAsked (next_call (Some part) (ask.Rule moment json)) [] answers → Means json rule →
+        AreAsked (next_call (Some part) (ask.Rule moment json) []) [] answers → Means json rule →
         knows rule.group rule.id part.rules ≡ false → 64 ≤ length part.rules → answers ≡ [] }
     ensures default { (part : Part) (moment : ℕ) (json : List ℕ) (rule : Rule) (answers : List MetaAnswer) →
-        AreAsked (next_call (Some part) (ask.Rule moment json)) [] answers → Means json rule → set_refusal rule part.rules ≡ None →
+        AreAsked (next_call (Some part) (ask.Rule moment json) []) [] answers → Means json rule → set_refusal rule part.rules ≡ None →
         rule.group ≡ codes "pd" → rule.id ≡ codes "default" →
         AreCalls (calls.Put part.term (rule_key rule.group rule.id) (revision_in (cell_at (rule_key rule.group rule.id) part.known)) (compact_text (rule_data rule)) ∷ []) answers }
     ensures stored { (part : Part) (moment : ℕ) (json : List ℕ) (rule : Rule) (answers : List MetaAnswer) →
-        AreAsked (next_call (Some part) (ask.Rule moment json)) [] answers → Means json rule → set_refusal rule part.rules ≡ None →
+        AreAsked (next_call (Some part) (ask.Rule moment json) []) [] answers → Means json rule → set_refusal rule part.rules ≡ None →
         0 < revision_in (cell_at (codes "rule/7064/64656661756c74") part.known) →
         AreCalls (calls.Put part.term (rule_key rule.group rule.id) (revision_in (cell_at (rule_key rule.group rule.id) part.known)) (compact_text (rule_data rule)) ∷ []) answers }
     ensures without { (part : Part) (moment : ℕ) (json : List ℕ) (rule : Rule) (answers : List MetaAnswer) →
-        AreAsked (next_call (Some part) (ask.Rule moment json)) [] answers → Means json rule → set_refusal rule part.rules ≡ None →
+        AreAsked (next_call (Some part) (ask.Rule moment json) []) [] answers → Means json rule → set_refusal rule part.rules ≡ None →
         knows (codes "pd") (codes "default") part.rules ≡ false →
         AreCalls (calls.Put part.term (rule_key rule.group rule.id) (revision_in (cell_at (rule_key rule.group rule.id) part.known)) (compact_text (rule_data rule)) ∷ []) answers }
     ensures behind { (part : Part) (moment : ℕ) (json : List ℕ) (rule : Rule) (answers : List MetaAnswer) →
-        AreAsked (next_call (Some part) (ask.Rule moment json)) [] answers → Means json rule → set_refusal rule part.rules ≡ None →
+        AreAsked (next_call (Some part) (ask.Rule moment json) []) [] answers → Means json rule → set_refusal rule part.rules ≡ None →
         (rule.group ≡ codes "pd" → rule.id ≡ codes "default" → ⊥) →
         revision_in (cell_at (codes "rule/7064/64656661756c74") part.known) ≡ 0 →
         knows (codes "pd") (codes "default") part.rules ≡ true →
@@ -110,17 +111,17 @@ pub fn the_calls_of_a_rule()
 /// it, and makes no call where the rule isn't stored.
 pub fn the_calls_of_a_removal()
     ensures absent { (part : Part) (moment : ℕ) (group id : List ℕ) (answers : List MetaAnswer) →
-        AreAsked (next_call (Some part) (ask.Unrule moment group id)) [] answers →
+        AreAsked (next_call (Some part) (ask.Unrule moment group id) []) [] answers →
         knows group id part.rules ≡ false → answers ≡ [] }
     ensures last { (part : Part) (moment : ℕ) (group id : List ℕ) (answers : List MetaAnswer) →
-        AreAsked (next_call (Some part) (ask.Unrule moment group id)) [] answers →
+        AreAsked (next_call (Some part) (ask.Unrule moment group id) []) [] answers →
         length part.rules ≡ 1 → answers ≡ [] }
     ensures stored { (part : Part) (moment : ℕ) (group id : List ℕ) (answers : List MetaAnswer) →
-        AreAsked (next_call (Some part) (ask.Unrule moment group id)) [] answers → knows group id part.rules ≡ true →
+        AreAsked (next_call (Some part) (ask.Unrule moment group id) []) [] answers → knows group id part.rules ≡ true →
         length part.rules ≢ 1 → 0 < revision_in (cell_at (rule_key group id) part.known) →
         AreCalls (calls.Delete part.term (rule_key group id) (revision_in (cell_at (rule_key group id) part.known)) ∷ []) answers }
     ensures unstored { (part : Part) (moment : ℕ) (group id : List ℕ) (answers : List MetaAnswer) →
-        AreAsked (next_call (Some part) (ask.Unrule moment group id)) [] answers →
+        AreAsked (next_call (Some part) (ask.Unrule moment group id) []) [] answers →
         revision_in (cell_at (rule_key group id) part.known) ≡ 0 → answers ≡ [] }
 {}
 

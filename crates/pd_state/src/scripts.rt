@@ -1,11 +1,14 @@
-// Clusters in scripts: a line is a request, and behind ` => ` stands what it is answered.
+// Clusters in scripts: a line is a request or a word about the scene, and behind ` => ` stands what it
+// is answered.
 use crate::{Cluster, Reply};
-use meta_store::Meta;
+use meta_store::{Meta, MetaCall, MetaEntry};
 use pd_types::{
     Actor, Bytes, Downs, Epoch, Ids, Label, Labels, NoMemory, Peer, Peers, Region, RegionBeat,
     Request, Role, StepMsg, Text,
 };
+use sched_api::Bench;
 use std::alloc::Global;
+use std::mem;
 use std::process::Abort;
 use std::test::Fail;
 
@@ -107,6 +110,15 @@ fn rule(alloc: Global, rest: &str) -> Result<Request, NoMemory> {
     })
 }
 
+// `ctl NOW WORDS`.
+fn ctl(alloc: Global, rest: &str) -> Result<Request, NoMemory> {
+    let (moment, words) = rest.split_once(' ').unwrap_or((rest, ""));
+    Ok(Request::Ctl {
+        moment: number(Some(moment)),
+        words: Bytes::of(Vec::from_slice(alloc, words.as_bytes())?),
+    })
+}
+
 // The request of two numbers, the moment and another one; of `unrule` the id of a rule of group `pd`.
 fn small(alloc: Global, kind: &str, rest: &str) -> Result<Request, NoMemory> {
     let (first, second) = rest.split_once(' ').unwrap_or((rest, ""));
@@ -142,34 +154,98 @@ pub fn request(alloc: Global, line: &str) -> Result<Request, NoMemory> {
         "beat" => beat(alloc, rest),
         "hello" => hello(alloc, rest),
         "rule" => rule(alloc, rest),
+        "schedule" => Ok(Request::Schedule {
+            moment: number(Some(rest)),
+        }),
+        "ctl" => ctl(alloc, rest),
         _ => small(alloc, kind, rest),
     }
 }
 
-/// A cluster of driver 1 and its metadata.
+// A driver's call of the metadata.
+fn put_call(text: &mut String, entry: &MetaEntry) -> Result<(), Fail> {
+    let MetaEntry {
+        driver,
+        verdict,
+        ..
+    } = entry;
+    match &entry.call {
+        MetaCall::Lead { term } => write!(text, "({driver} lead {term})")?,
+        MetaCall::Put { key, expected, .. } => {
+            let key = str::from_utf8(key.as_slice()).unwrap_or("");
+            write!(text, "({driver} put {key} {expected} {verdict:?})")?;
+        }
+        MetaCall::Delete { key, expected, .. } => {
+            let key = str::from_utf8(key.as_slice()).unwrap_or("");
+            write!(text, "({driver} delete {key} {expected} {verdict:?})")?;
+        }
+    }
+    Ok(())
+}
+
+// A message: from whose cluster to which store, and what stands in it.
+fn put_message(text: &mut String, message: &StepMsg) -> Result<(), Fail> {
+    let StepMsg {
+        driver,
+        term,
+        entry,
+        region,
+        to,
+        step,
+    } = *message;
+    write!(
+        text,
+        "({driver} to {to} term {term} entry {entry} region {region} {step})"
+    )?;
+    Ok(())
+}
+
+/// A cluster of driver 1, one of driver 2 that waits, their metadata and a bench, which is empty at first.
 #[derive(Drop)]
 pub struct Scene {
     pub cluster: Cluster,
+    other: Cluster,
     pub meta: Meta,
+    pub bench: Bench,
 }
 
 impl Scene {
     pub fn new(alloc: Global) -> Scene {
+        Scene::of(alloc, Bench::empty(alloc))
+    }
+
+    /// With this bench of schedulers.
+    pub fn of(alloc: Global, bench: Bench) -> Scene {
         Scene {
             cluster: Cluster::new(alloc, 1),
+            other: Cluster::new(alloc, 2),
             meta: Meta::new(alloc),
+            bench,
         }
     }
 
     /// Serves a request.
     pub fn ask(&mut self, actor: Actor, request: Request) -> Result<Reply, NoMemory> {
-        self.cluster.serve(actor, 7, request, &mut self.meta)
+        self.cluster
+            .serve(actor, 7, request, &mut self.meta, &mut self.bench)
     }
 
-    /// What a line is answered, as it is printed.
-    pub fn answer(&mut self, alloc: Global, line: &str) -> Result<String, NoMemory> {
-        let reply = self.ask(Actor::Driver(1), request(alloc, line)?)?;
-        Ok(format!(in alloc; "{reply}")?)
+    // What a line is answered, as it is printed.
+    fn answer(&mut self, alloc: Global, line: &str) -> Result<String, Fail> {
+        let (word, rest) = line.split_once(' ').unwrap_or((line, ""));
+        match word {
+            "keep" => self.keep(alloc, rest),
+            "outdate" => self.outdate(alloc),
+            "other" => self.turn(alloc),
+            "clock" => self.clock(alloc),
+            "rules" => self.rules(alloc),
+            "sends" => self.sends(alloc),
+            "writes" => self.writes(alloc),
+            _ => {
+                let reply = self.ask(Actor::Driver(1), request(alloc, line)?)?;
+                Ok(format!(in alloc; "{reply}")?)
+            }
+        }
     }
 
     /// Serves each line, whose answer stands behind ` => `.
@@ -182,39 +258,57 @@ impl Scene {
         Ok(())
     }
 
-    /// Puts a record behind the cluster's back, as driver 2.
-    pub fn keep(&mut self, key: &[u8], bytes: &[u8]) -> Result<(), Fail> {
-        match self.meta.put_if(2, 1, key, 0, bytes) {
-            Ok(_) => Ok(()),
-            Err(_) => Err(Fail::new("a record wasn't put")),
-        }
+    // Puts a record behind the cluster's back, as driver 2: `KEY BYTES`.
+    fn keep(&mut self, alloc: Global, rest: &str) -> Result<String, Fail> {
+        let (key, bytes) = rest.split_once(' ').unwrap_or((rest, ""));
+        let is_put = self.meta.put_if(2, 1, key.as_bytes(), 0, bytes.as_bytes());
+        Ok(String::from_str(alloc, if is_put.is_ok() { "kept" } else { "refused" })?)
     }
 
-    /// Driver 2 announces term 5, so that the cluster is outdated.
-    pub fn outdate(&mut self) -> Result<(), Fail> {
-        match self.meta.lead(2, 5) {
-            Ok(_) => Ok(()),
-            Err(_) => Err(Fail::new("no lead")),
-        }
+    // Driver 2 announces term 5, so that the cluster is outdated.
+    fn outdate(&mut self, alloc: Global) -> Result<String, Fail> {
+        let is_led = self.meta.lead(2, 5).is_ok();
+        Ok(String::from_str(alloc, if is_led { "outdated" } else { "refused" })?)
     }
 
-    /// The messages that were sent, a line for each.
-    pub fn sends(&self, alloc: Global) -> Result<String, Fail> {
+    // From here on the other driver's cluster is asked.
+    fn turn(&mut self, alloc: Global) -> Result<String, Fail> {
+        mem::swap(&mut self.cluster, &mut self.other);
+        Ok(String::from_str(alloc, "turned")?)
+    }
+
+    // The cluster's clock.
+    fn clock(&self, alloc: Global) -> Result<String, Fail> {
+        let clock = self.cluster.part().map(|part| part.clock);
+        Ok(format!(in alloc; "{}", clock.unwrap_or(0))?)
+    }
+
+    // The ids of its rules.
+    fn rules(&self, alloc: Global) -> Result<String, Fail> {
+        let mut text = String::new(alloc);
+        if let Some(part) = self.cluster.part() {
+            for rule in part.rules.rules().as_slice().iter() {
+                write!(text, "({})", rule.id.as_str())?;
+            }
+        }
+        Ok(text)
+    }
+
+    // The drivers' calls of the metadata.
+    fn writes(&self, alloc: Global) -> Result<String, Fail> {
+        let mut text = String::new(alloc);
+        for entry in self.meta.journal().iter() {
+            put_call(&mut text, entry)?;
+        }
+        Ok(text)
+    }
+
+    // The messages that it sent.
+    fn sends(&self, alloc: Global) -> Result<String, Fail> {
         let mut text = String::new(alloc);
         for entry in self.cluster.journal().as_slice().iter() {
             for message in entry.sends.as_slice().iter() {
-                let StepMsg {
-                    driver,
-                    term,
-                    entry,
-                    region,
-                    to,
-                    step,
-                } = *message;
-                let line = format!(in alloc;
-                    "{driver} to {to} term {term} entry {entry} region {region} {step}\n"
-                )?;
-                text.push_str(line.as_str())?;
+                put_message(&mut text, message)?;
             }
         }
         Ok(text)

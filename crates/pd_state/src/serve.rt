@@ -1,24 +1,28 @@
 // What a request makes of the tables.
-ghost use Rattle.std.specs.Prelude.{◌≡◌, ◌++◌, ◌∷◌, [], fold, length, OnOk, Some, IfOk};
+ghost use Rattle.std.specs.Prelude.{◌≡◌, ℕ, ◌++◌, ◌∷◌, [], fold, length, OnOk, Some, IfOk};
 ghost use Rattle.op_control.specs.Table.{canceled, dispatch_answer, dispatched};
 ghost use Rattle.heartbeat.specs.Intakes.{intake_of};
 ghost use Rattle.meta_store.specs.Asked.{AreAsked};
 ghost use Rattle.meta_store.specs.Cells.{AreRising};
 ghost use Rattle.meta_store.specs.Doors.{Serves};
+ghost use Rattle.pd_state.specs.BenchHeard.{Becomes, dropped, names_heard, turns_of};
 ghost use Rattle.pd_state.specs.Calls.{next_call};
-ghost use Rattle.pd_state.specs.Heard.{nothing, told_all};
+ghost use Rattle.pd_state.specs.Heard.{IsAlone, nothing, told_all};
 ghost use Rattle.pd_state.specs.Legal.{beat_dispatch, beat_sents, first_reply, sents_by, term_reply};
 ghost use Rattle.pd_state.specs.Replies.{alive_reply, beat_reply};
 ghost use Rattle.pd_state.specs.Steps.{changed_part, new_part, stepped};
 ghost use Rattle.pd_state.specs.declared.heard.Heard.{Heard};
+ghost use Rattle.sched_api.specs.Benches.{names_of};
 ghost use Rattle.store_table.specs.Entries.{state_at};
 
 use crate::checking::check_region;
+use crate::ctl::ctl;
 use crate::handed::{limits_told, rules_told, stores_told};
-use crate::heard::{Done, quiet, with_answer, with_log};
+use crate::heard::{Done, quiet, with_answer, with_log, with_names};
 use crate::patrol::patrol;
 use crate::placement::{rule, unrule};
 use crate::planning::Log;
+use crate::scheduling::schedule;
 use crate::sent::send;
 use crate::stores::{greet, greeted_record, hear, hello_refusal};
 use crate::write::{put, refusal};
@@ -28,6 +32,7 @@ use id_alloc::IdWindow;
 use meta_store::{Door, Known, MetaAnswer, ask_lead, store_key, store_text};
 use op_control::Operators;
 use pd_types::{Duplicate, Ids, Labels, NoMemory, RegionBeat, Request, Text};
+use sched_api::Seated;
 use std::alloc::Global;
 
 // The tables of a term that was announced, by the records that were handed out.
@@ -65,9 +70,10 @@ fn begin<M: Door>(
     door: &mut M,
 ) -> Result<Done, NoMemory>
     requires { Serves (M.place door.old) driver }
-    ensures reply { IfOk result (λ done. done.reply ≡ first_reply part.old (Request.Term term moment) done.heard) }
-    ensures asked { IfOk result (λ done. AreAsked (next_call part.old (Request.Term term moment)) [] done.heard.answers) }
+    ensures reply { IfOk result (λ done. done.reply ≡ first_reply driver part.old (Request.Term term moment) done.heard) }
+    ensures asked { IfOk result (λ done. AreAsked (next_call part.old (Request.Term term moment) []) [] done.heard.answers) }
     ensures after { IfOk result (λ done. part.new ≡ stepped part.old (Request.Term term moment) done.reply done.heard) }
+    ensures alone { IfOk result (λ done. IsAlone done.heard) }
     ensures sents { IfOk result (λ done. done.sents ≡ []) }
     ensures said { IfOk result (λ done. M.said door.new ≡ M.said door.old ++ done.heard.answers) }
     ensures told { IfOk result (λ done. M.told door.new ≡ told_all (M.told door.old) driver done.heard.answers) }
@@ -90,7 +96,7 @@ fn begin<M: Door>(
 
 // Gives the term up, where there is one.
 fn retire(part: &mut Option<Part>) -> Reply
-    ensures reply { (heard : Heard) → result ≡ first_reply part.old Request.Retire heard }
+    ensures reply { (driver : ℕ) (heard : Heard) → result ≡ first_reply driver part.old Request.Retire heard }
     ensures after { (heard : Heard) → part.new ≡ stepped part.old Request.Retire result heard }
 {
     match part.take() {
@@ -111,9 +117,10 @@ fn hello<M: Door>(
     door: &mut M,
 ) -> Result<Done, NoMemory>
     requires { Serves (M.place door.old) driver }
-    ensures reply { IfOk result (λ done. done.reply ≡ term_reply part.old (Request.Hello store moment address.now labels.now) done.heard) }
-    ensures asked { IfOk result (λ done. AreAsked (next_call (Some part.old) (Request.Hello store moment address.now labels.now)) [] done.heard.answers) }
+    ensures reply { IfOk result (λ done. done.reply ≡ term_reply driver part.old (Request.Hello store moment address.now labels.now) done.heard) }
+    ensures asked { IfOk result (λ done. AreAsked (next_call (Some part.old) (Request.Hello store moment address.now labels.now) []) [] done.heard.answers) }
     ensures after { IfOk result (λ done. part.new ≡ changed_part part.old (Request.Hello store moment address.now labels.now) done.reply done.heard) }
+    ensures alone { IfOk result (λ done. IsAlone done.heard) }
     ensures sents { IfOk result (λ done. done.sents ≡ []) }
     ensures said { IfOk result (λ done. M.said door.new ≡ M.said door.old ++ done.heard.answers) }
     ensures told { IfOk result (λ done. M.told door.new ≡ told_all (M.told door.old) driver done.heard.answers) }
@@ -163,6 +170,7 @@ fn accept(
     ensures heard { IfOk result (λ done. done.heard.answers ≡ []) }
     ensures after { part.new ≡ record part.old { operators = part.new.operators } }
     ensures operators { OnOk result (part.new.operators ≡ dispatched (fold canceled part.old.operators removed.now) beat.now part.old.stores part.old.clock) }
+    ensures alone { IfOk result (λ done. IsAlone done.heard) }
     ensures sents { IfOk result (λ done. done.sents ≡ beat_sents done.reply beat.now) }
 {
     free(&mut part.operators, removed.as_slice());
@@ -170,7 +178,7 @@ fn accept(
     let mut log = Log::new(alloc);
     send(&mut log.sents, beat, dispatch)?;
     let removed = removed.len() as u64;
-    Ok(with_log(Reply::Accepted { removed, dispatch }, log))
+    Ok(with_log(alloc, Reply::Accepted { removed, dispatch }, log))
 }
 
 fn beat(
@@ -183,6 +191,7 @@ fn beat(
     ensures reply { IfOk result (λ done. done.reply ≡ beat_reply (intake_of beat.now part.old.standing) (beat_dispatch part.old moment beat.now)) }
     ensures heard { IfOk result (λ done. done.heard.answers ≡ []) }
     ensures after { IfOk result (λ done. part.new ≡ changed_part part.old (Request.Beat store moment beat.now) done.reply nothing) }
+    ensures alone { IfOk result (λ done. IsAlone done.heard) }
     ensures sents { IfOk result (λ done. done.sents ≡ beat_sents done.reply beat.now) }
 {
     part.advance(moment);
@@ -195,16 +204,20 @@ fn beat(
 }
 
 /// Serves one request over the tables. After want of memory nothing is said of them.
-pub fn step<M: Door>(
+pub fn step<M: Door, B: Seated>(
     alloc: Global,
     driver: u8,
     part: &mut Option<Part>,
     request: &Request,
     door: &mut M,
+    bench: &mut B,
 ) -> Result<Done, NoMemory>
     requires { Serves (M.place door.old) driver }
-    ensures reply { IfOk result (λ done. done.reply ≡ first_reply part.old request.now done.heard) }
-    ensures asked { IfOk result (λ done. AreAsked (next_call part.old request.now) [] done.heard.answers) }
+    ensures reply { IfOk result (λ done. done.reply ≡ first_reply driver part.old request.now done.heard) }
+    ensures asked { IfOk result (λ done. AreAsked (next_call part.old request.now done.heard.bench) [] done.heard.answers) }
+    ensures turns { IfOk result (λ done. length done.heard.bench ≡ turns_of part.old request.now done.heard.names) }
+    ensures names { IfOk result (λ done. done.heard.names ≡ names_heard request.now (names_of (B.seats bench.old))) }
+    ensures becomes { IfOk result (λ done. Becomes done.heard.bench (dropped part.old request.now done.heard.names) (B.seats bench.old) (B.seats bench.new)) }
     ensures after { IfOk result (λ done. part.new ≡ stepped part.old request.now done.reply done.heard) }
     ensures sents { IfOk result (λ done. done.sents ≡ sents_by part.old request.now done.reply done.heard) }
     ensures said { IfOk result (λ done. M.said door.new ≡ M.said door.old ++ done.heard.answers) }
@@ -251,5 +264,10 @@ pub fn step<M: Door>(
             Some(held) => patrol(alloc, driver, held, *moment, *workers, door),
             None => Ok(quiet(alloc, Reply::NotLeading)),
         },
+        Request::Schedule { moment } => match part {
+            Some(held) => schedule(alloc, driver, held, *moment, door, bench),
+            None => Ok(with_names(alloc, Reply::NotLeading, bench.names()?)),
+        },
+        Request::Ctl { moment, words } => ctl(alloc, driver, part, *moment, words, door, bench),
     }
 }

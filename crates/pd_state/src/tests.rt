@@ -1,9 +1,9 @@
 // The requests of stores and about rules, terms, and what the metadata keeps of them.
 use crate::scripts::{Scene, request};
 use crate::{Cluster, Reply};
-use meta_store::{MetaCall, MetaEntry, MetaVerdict, store_key};
 use pd_types::{Actor, BeatFault, NoMemory, Request};
 use std::alloc::Global;
+use std::ops::Range;
 use std::process::Abort;
 use std::test::Fail;
 
@@ -89,30 +89,15 @@ beat 1003 10 - - 1 7 11 => accepted removed 2 none
 beat 1004 11 - - 1 8 51 => bad 5
 ";
 
-// Three stores and a region, as the gate of operators finds them later.
-const THREE_STORES: &str = "\
-term 1 1000 => term 1 stores 0 rules 1
+// Three stores and a region, as the gate of operators finds them later: a store is live for 20 seconds.
+const THREE_STORES: &str = r#"term 1 1000 => term 1 stores 0 rules 1
 hello 1 1000 => store put
 hello 2 1000 => store put
-hello 3 1000 => store put
 beat 1000 7 - - 1 1 11 => accepted removed 0 none
 alive 1 21001 => alive
-";
-
-#[test]
-fn stores_say_hello_and_are_heard(rt: HostRuntime) -> Result<(), Fail> {
-    let alloc = rt.alloc();
-    let mut scene = Scene::new(alloc);
-    scene.play(&rt, alloc, THREE_STORES)?;
-    let Some(part) = scene.cluster.part() else {
-        return Err(Fail::new("no term"));
-    };
-    assert_eq!(rt; part.clock, 21_001);
-    assert_eq!(rt; part.stores.is_live(1, 21_001), true);
-    assert_eq!(rt; part.stores.is_live(2, 21_001), false);
-    assert_eq!(rt; part.standing.leader_count(1), 1);
-    Ok(())
-}
+ctl 21001 store => {"count":2,"stores":[{"address":"a","id":1,"labels":[],"leader_count":1,"region_count":1,"state_name":"Up"},{"address":"a","id":2,"labels":[],"leader_count":0,"region_count":0,"state_name":"Disconnected"}]}
+clock => 21001
+"#;
 
 // Without a term nothing is served. A new term knows the stores that were written, and has neither
 // heard them nor their regions.
@@ -141,81 +126,39 @@ const CLOCK: &str = "\
 term 1 1000 => term 1 stores 0 rules 1
 beat 3000 7 - - 1 1 12 => bad 5
 alive 9 2000 => unknown-store
+clock => 3000
 ";
 
-#[test]
-fn the_clock_is_the_greatest_moment(rt: HostRuntime) -> Result<(), Fail> {
-    let alloc = rt.alloc();
-    let mut scene = Scene::new(alloc);
-    scene.play(&rt, alloc, CLOCK)?;
-    let clock = scene.cluster.part().map(|part| part.clock);
-    assert_eq!(rt; clock, Some(3000));
-    Ok(())
-}
+// A kept record, and what a term begins with. A record that doesn't read is passed over, and so is one
+// under another key than its own.
+const OFFLINE: &str = "\
+keep store/00000000000000000001 offline a - => kept
+term 1 1000 => term 1 stores 1 rules 1
+";
 
-#[test]
-fn the_257th_store_is_refused(rt: HostRuntime) -> Result<(), Fail> {
-    let alloc = rt.alloc();
-    let mut scene = Scene::new(alloc);
-    scene.play(&rt, alloc, "term 1 1000 => term 1 stores 0 rules 1")?;
-    for store in 1..258u64 {
-        let want = if store < 257 { "store put" } else { "limit" };
-        let line = format!(in alloc; "hello {store} 1000")?;
-        let text = scene.answer(alloc, line.as_str())?;
-        assert_eq!(rt; text.as_str(), want, "at {store}");
-    }
-    Ok(())
-}
+const WITHOUT_LABELS: &str = "\
+keep store/00000000000000000001 up a => kept
+term 1 1000 => term 1 stores 0 rules 1
+";
 
-#[test]
-fn a_term_begins_with_256_of_the_stores_that_were_kept(rt: HostRuntime) -> Result<(), Fail> {
-    let alloc = rt.alloc();
-    let mut scene = Scene::new(alloc);
-    for store in 1..258u64 {
-        let key = store_key(alloc, store)?;
-        scene.keep(key.as_slice(), b"up a -")?;
-    }
-    scene.play(&rt, alloc, "term 1 1000 => term 1 stores 256 rules 1")
-}
+const SHORT_KEY: &str = "\
+keep store/1 up a - => kept
+term 1 1000 => term 1 stores 0 rules 1
+";
 
-// Rows of a kept record, its bytes, and what a term begins with. A record that doesn't read is passed
-// over, and so is one under another key than its own.
-const KEPT: [(&str, &str, &str); 6] = [
-    (
-        "store/00000000000000000001",
-        "offline a -",
-        "term 1 stores 1 rules 1",
-    ),
-    (
-        "store/00000000000000000001",
-        "up a",
-        "term 1 stores 0 rules 1",
-    ),
-    ("store/1", "up a -", "term 1 stores 0 rules 1"),
-    (
-        "rule/7064/78",
-        r#"{"group_id":"pd","id":"x","role":"voter","count":1}"#,
-        "term 1 stores 0 rules 1",
-    ),
-    (
-        "rule/7064/78",
-        r#"{"group_id":"pd","id":"y","role":"voter","count":1}"#,
-        "term 1 stores 0 rules 1",
-    ),
-    ("id", "1001000", "term 1 stores 0 rules 1"),
-];
+const ANOTHER_ID: &str =
+    r#"keep rule/7064/78 {"group_id":"pd","id":"y","role":"voter","count":1} => kept
+term 1 1000 => term 1 stores 0 rules 1
+rules => (default)
+"#;
 
-#[test]
-fn a_term_begins_with_the_records_that_read(rt: HostRuntime) -> Result<(), Fail> {
-    let alloc = rt.alloc();
-    for (key, bytes, want) in KEPT {
-        let mut scene = Scene::new(alloc);
-        scene.keep(key.as_bytes(), bytes.as_bytes())?;
-        let text = scene.answer(alloc, "term 1 1000")?;
-        assert_eq!(rt; text.as_str(), want, "at {key} {bytes}");
-    }
-    Ok(())
-}
+// A stored rule stands in place of the default rule.
+const STORED_RULE: &str =
+    r#"keep rule/7064/78 {"group_id":"pd","id":"x","role":"voter","count":1} => kept
+keep id 1001000 => kept
+term 1 1000 => term 1 stores 0 rules 1
+rules => (x)
+"#;
 
 // Rules are set and removed, and a new term knows them. The default rule is written with the first
 // other one; a rule that was never written is removed without a call.
@@ -249,46 +192,71 @@ unrule 1000 x => rule removed
 unrule 1000 default => last-rule
 "#;
 
-// Each script by itself.
-#[test]
-fn requests_are_answered(rt: HostRuntime) -> Result<(), Fail> {
-    let alloc = rt.alloc();
-    for lines in [STALE_AND_OVERLAPPING, TERMS, RULES, RULE_ROW] {
-        Scene::new(alloc).play(&rt, alloc, lines)?;
-    }
-    Ok(())
-}
-
 // With 64 rules, `7` of the group `pd` among them, a rule of a new name is refused, and no other.
 const AT_THE_LIMIT: &str =
-    r#"rule 1000 {"group_id":"pd","id":"7","role":"voter","count":2} => rule set
+    r#"rule 1000 {"group_id":"pd","id":"64","role":"voter","count":1} => rule-limit
+rule 1000 {"group_id":"pd","id":"7","role":"voter","count":2} => rule set
 rule 1000 {"group_id":"qd","id":"7","role":"voter","count":2} => rule-limit
 unrule 1000 7 => rule removed
 rule 1000 {"group_id":"qd","id":"7","role":"voter","count":2} => rule set
 "#;
 
-#[test]
-fn the_65th_rule_is_refused(rt: HostRuntime) -> Result<(), Fail> {
-    let alloc = rt.alloc();
-    let mut scene = Scene::new(alloc);
-    scene.play(&rt, alloc, "term 1 1000 => term 1 stores 0 rules 1")?;
-    for id in 1..65u64 {
-        let want = if id < 64 { "rule set" } else { "rule-limit" };
-        let line = format!(in alloc;
-            "rule 1000 {{\"group_id\":\"pd\",\"id\":\"{id}\",\"role\":\"voter\",\"count\":1}}"
-        )?;
-        let text = scene.answer(alloc, line.as_str())?;
-        assert_eq!(rt; text.as_str(), want, "at {id}");
+// Plays the line for each of these numbers, which stands in the place of its `%`.
+fn fill(
+    rt: &impl Abort,
+    alloc: Global,
+    scene: &mut Scene,
+    numbers: Range<u64>,
+    line: &str,
+) -> Result<(), Fail> {
+    let (front, back) = line.split_once('%').unwrap_or((line, ""));
+    for number in numbers {
+        let line = format!(in alloc; "{front}{number}{back}")?;
+        scene.play(rt, alloc, line.as_str())?;
     }
-    scene.play(&rt, alloc, AT_THE_LIMIT)
+    Ok(())
+}
+
+// The limits of stores, of stores that were kept, and of rules: the numbers that fill one, the line for
+// each, and what comes behind them.
+const LIMITS: [(u64, u64, &str, &str); 3] = [
+    (
+        1,
+        257,
+        "hello % 1000 => store put",
+        "hello 257 1000 => limit",
+    ),
+    (
+        100,
+        357,
+        "keep store/00000000000000000% up a - => kept",
+        "term 2 1000 => term 2 stores 256 rules 1",
+    ),
+    (
+        1,
+        64,
+        r#"rule 1000 {"group_id":"pd","id":"%","role":"voter","count":1} => rule set"#,
+        AT_THE_LIMIT,
+    ),
+];
+
+#[test]
+fn stores_and_rules_have_limits(rt: HostRuntime) -> Result<(), Fail> {
+    let alloc = rt.alloc();
+    for (first, end, line, behind) in LIMITS {
+        let mut scene = Scene::new(alloc);
+        scene.play(&rt, alloc, "term 1 1000 => term 1 stores 0 rules 1")?;
+        fill(&rt, alloc, &mut scene, first..end, line)?;
+        scene.play(&rt, alloc, behind)?;
+    }
+    Ok(())
 }
 
 // What a driver whose rule `x` is set is answered once it is outdated: a refused write leaves the rules.
-const LED: &str = r#"term 1 1000 => term 1 stores 0 rules 1
+const OUTDATED: &str = r#"term 1 1000 => term 1 stores 0 rules 1
 rule 1000 {"group_id":"pd","id":"x","role":"voter","count":1} => rule set
-"#;
-
-const OUTDATED: &str = r#"rule 1000 {"group_id":"pd","id":"x"} => bad-rule 3
+outdate => outdated
+rule 1000 {"group_id":"pd","id":"x"} => bad-rule 3
 rule 1000 {"group_id":"pd","id":"y","role":"voter","count":1} => old-term 5
 unrule 1000 y => absent
 unrule 1000 x => old-term 5
@@ -296,136 +264,74 @@ rule 1000 {"group_id":"pd","id":"x","role":"learner","count":1} => old-term 5
 unrule 1000 default => old-term 5
 "#;
 
-#[test]
-fn rules_of_an_outdated_driver_are_refused(rt: HostRuntime) -> Result<(), Fail> {
-    let alloc = rt.alloc();
-    let mut scene = Scene::new(alloc);
-    scene.play(&rt, alloc, LED)?;
-    scene.outdate()?;
-    scene.play(&rt, alloc, OUTDATED)
-}
-
-// Whether a call wrote this key at this revision, with this verdict.
-fn is_put(entry: &MetaEntry, at: &str, revision: u64, verdict: MetaVerdict) -> bool {
-    match &entry.call {
-        MetaCall::Put { key, expected, .. } => {
-            key.as_slice() == at.as_bytes() && *expected == revision && entry.verdict == verdict
-        }
-        MetaCall::Lead { .. } | MetaCall::Delete { .. } => false,
-    }
-}
-
-// The default rule's key, as docs/FORMATS.md spells it, and that of the rule `x` of its group.
-const DEFAULT_KEY: &str = "rule/7064/64656661756c74";
-
-const X_KEY: &str = "rule/7064/78";
-
-// The first rule that is set is written behind the default rule, and later ones alone.
+// The first rule that is set is written behind the default rule, and later ones alone; the keys are as
+// docs/FORMATS.md spells them.
 const TWICE: &str = r#"term 1 1000 => term 1 stores 0 rules 1
 rule 1000 {"group_id":"pd","id":"x","role":"voter","count":1} => rule set
 rule 1000 {"group_id":"pd","id":"x","role":"voter","count":2} => rule set
+writes => (1 lead 1)(1 put rule/7064/64656661756c74 0 Accepted { revision: 1 })(1 put rule/7064/78 0 Accepted { revision: 2 })(1 put rule/7064/78 2 Accepted { revision: 3 })
 "#;
-
-#[test]
-fn the_default_rule_is_written_with_the_first_other_one(rt: HostRuntime) -> Result<(), Fail> {
-    let alloc = rt.alloc();
-    let mut scene = Scene::new(alloc);
-    scene.play(&rt, alloc, TWICE)?;
-    let rows = [
-        (DEFAULT_KEY, 0, MetaVerdict::Accepted { revision: 1 }),
-        (X_KEY, 0, MetaVerdict::Accepted { revision: 2 }),
-        (X_KEY, 2, MetaVerdict::Accepted { revision: 3 }),
-    ];
-    assert_eq!(rt; scene.meta.journal().len(), 4);
-    for (entry, (key, revision, verdict)) in scene.meta.journal().iter().skip(1).zip(rows) {
-        assert!(rt;
-            is_put(entry, key, revision, verdict),
-            "at {key} {revision}"
-        );
-    }
-    Ok(())
-}
 
 // A record of the rule was written behind the cluster's back, so that the second write is refused;
 // the default rule stays stored, and the next rule is written alone.
-const SECOND_REFUSED: &str =
-    r#"rule 1000 {"group_id":"pd","id":"x","role":"voter","count":1} => conflict 1
+const SECOND_REFUSED: &str = r#"term 1 1000 => term 1 stores 0 rules 1
+keep rule/7064/78 {"group_id":"pd","id":"x","role":"voter","count":1} => kept
+rule 1000 {"group_id":"pd","id":"x","role":"voter","count":1} => conflict 1
 unrule 1000 x => absent
 unrule 1000 default => last-rule
 rule 1000 {"group_id":"pd","id":"y","role":"voter","count":1} => rule set
 unrule 1000 y => rule removed
 term 2 1000 => term 2 stores 0 rules 2
+writes => (1 lead 1)(2 put rule/7064/78 0 Accepted { revision: 1 })(1 put rule/7064/64656661756c74 0 Accepted { revision: 2 })(1 put rule/7064/78 0 Conflict { found: 1 })(1 put rule/7064/79 0 Accepted { revision: 3 })(1 delete rule/7064/79 3 Accepted { revision: 4 })(1 lead 2)
 "#;
-
-#[test]
-fn a_refused_second_write_leaves_the_default_rule_stored(rt: HostRuntime) -> Result<(), Fail> {
-    let alloc = rt.alloc();
-    let mut scene = Scene::new(alloc);
-    scene.play(&rt, alloc, "term 1 1000 => term 1 stores 0 rules 1")?;
-    let (_, bytes, _) = KEPT[3];
-    scene.keep(X_KEY.as_bytes(), bytes.as_bytes())?;
-    scene.play(&rt, alloc, SECOND_REFUSED)?;
-    // Two leads, the record behind the cluster's back, the two writes, that of `y`, and its deletion.
-    assert_eq!(rt; scene.meta.journal().len(), 7);
-    Ok(())
-}
 
 // Behind a refused write of the default rule none is made.
-const FIRST_REFUSED: &str =
-    r#"rule 1000 {"group_id":"pd","id":"x","role":"voter","count":1} => conflict 1
+const FIRST_REFUSED: &str = r#"term 1 1000 => term 1 stores 0 rules 1
+keep rule/7064/64656661756c74 - => kept
+rule 1000 {"group_id":"pd","id":"x","role":"voter","count":1} => conflict 1
 unrule 1000 x => absent
+writes => (1 lead 1)(2 put rule/7064/64656661756c74 0 Accepted { revision: 1 })(1 put rule/7064/64656661756c74 0 Conflict { found: 1 })
 "#;
-
-#[test]
-fn a_refused_first_write_changes_nothing(rt: HostRuntime) -> Result<(), Fail> {
-    let alloc = rt.alloc();
-    let mut scene = Scene::new(alloc);
-    scene.play(&rt, alloc, "term 1 1000 => term 1 stores 0 rules 1")?;
-    scene.keep(DEFAULT_KEY.as_bytes(), b"-")?;
-    scene.play(&rt, alloc, FIRST_REFUSED)?;
-    // The lead, the record behind the cluster's back, and the refused write.
-    assert_eq!(rt; scene.meta.journal().len(), 3);
-    Ok(())
-}
-
-#[test]
-fn a_stored_rule_stands_in_place_of_the_default_rule(rt: HostRuntime) -> Result<(), Fail> {
-    let alloc = rt.alloc();
-    let mut scene = Scene::new(alloc);
-    let (key, bytes, _) = KEPT[3];
-    scene.keep(key.as_bytes(), bytes.as_bytes())?;
-    scene.play(&rt, alloc, "term 1 1000 => term 1 stores 0 rules 1")?;
-    let id = match scene
-        .cluster
-        .part()
-        .and_then(|part| part.rules.rules().as_slice().first())
-    {
-        Some(rule) => rule.id.as_str(),
-        None => "",
-    };
-    assert_eq!(rt; id, "x");
-    Ok(())
-}
 
 // A write behind the cluster's back, and a later term: the cluster's own writes are refused, and a
 // term that is refused leaves none.
 const GUARDED: &str = "\
+term 1 1000 => term 1 stores 0 rules 1
+keep store/00000000000000000001 up a - => kept
+hello 1 1000 => conflict 1
+outdate => outdated
 hello 1 1000 => old-term 5
 alive 1 1000 => unknown-store
 term 3 1000 => old-term 5
 alive 1 1000 => not-leading
 ";
 
+// Each script by itself.
 #[test]
-fn a_write_is_guarded_by_the_term_and_the_revision(rt: HostRuntime) -> Result<(), Fail> {
+fn requests_are_answered(rt: HostRuntime) -> Result<(), Fail> {
     let alloc = rt.alloc();
-    let mut scene = Scene::new(alloc);
-    scene.play(&rt, alloc, "term 1 1000 => term 1 stores 0 rules 1")?;
-    let key = store_key(alloc, 1)?;
-    scene.keep(key.as_slice(), b"up a -")?;
-    scene.play(&rt, alloc, "hello 1 1000 => conflict 1")?;
-    scene.outdate()?;
-    scene.play(&rt, alloc, GUARDED)
+    let scripts = [
+        STALE_AND_OVERLAPPING,
+        THREE_STORES,
+        TERMS,
+        CLOCK,
+        OFFLINE,
+        WITHOUT_LABELS,
+        SHORT_KEY,
+        ANOTHER_ID,
+        STORED_RULE,
+        RULES,
+        RULE_ROW,
+        OUTDATED,
+        TWICE,
+        SECOND_REFUSED,
+        FIRST_REFUSED,
+        GUARDED,
+    ];
+    for lines in scripts {
+        Scene::new(alloc).play(&rt, alloc, lines)?;
+    }
+    Ok(())
 }
 
 #[test]

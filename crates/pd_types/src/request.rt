@@ -44,6 +44,15 @@ pub enum Request {
         moment: u64,
         workers: u32,
     },
+    /// Lets the next scheduler of the driver's bench propose a move (PD's schedulers).
+    Schedule {
+        moment: u64,
+    },
+    /// A command of pd-ctl, by its words.
+    Ctl {
+        moment: u64,
+        words: Bytes,
+    },
     /// The driver won this term.
     Term {
         term: u64,
@@ -96,6 +105,11 @@ impl Duplicate for Request {
             Request::Patrol { moment, workers } => Ok(Request::Patrol {
                 moment: *moment,
                 workers: *workers,
+            }),
+            Request::Schedule { moment } => Ok(Request::Schedule { moment: *moment }),
+            Request::Ctl { moment, words } => Ok(Request::Ctl {
+                moment: *moment,
+                words: words.copy(alloc)?,
             }),
             Request::Term { term, moment } => Ok(Request::Term {
                 term: *term,

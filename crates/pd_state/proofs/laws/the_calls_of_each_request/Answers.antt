@@ -15,4 +15,6 @@ returns c = record {
   unrule = λ moment group id answers asked. no_calls answers asked;
   check = λ moment region answers asked. no_calls answers asked;
   patrol = λ moment workers answers asked. no_calls answers asked;
+  schedule = λ moment said answers asked. no_calls answers asked;
+  ctl = λ moment words answers asked. no_calls answers asked;
 }

@@ -14,4 +14,6 @@ returns c = record {
   unrule = λ moment group id. refl;
   check = λ moment region. refl;
   patrol = λ moment workers. refl;
+  schedule = λ moment. refl;
+  ctl = λ moment words. refl;
 }

@@ -5,9 +5,9 @@ use Rattle.pd_state.proofs.rule_laws.how_a_rule_is_answered.Goals as goal
 pub returns : goal.returns
 returns c = record {
   bad = bad_reply;
-  limit = λ part moment json rule heard means. (limit_from part moment json rule heard means, limit_to part moment json rule heard means);
+  limit = λ driver part moment json rule heard means. (limit_from driver part moment json rule heard means, limit_to driver part moment json rule heard means);
   put = put_reply;
-  outdated = λ part moment fence. refused_reply (verdicts.OldTerm fence) part moment;
-  conflict = λ part moment found. refused_reply (verdicts.Conflict found) part moment;
+  outdated = λ driver part moment fence. refused_reply (verdicts.OldTerm fence) driver part moment;
+  conflict = λ driver part moment found. refused_reply (verdicts.Conflict found) driver part moment;
   full = refused_reply verdicts.Limit;
 }
