@@ -14,14 +14,17 @@ ghost use Rattle.tso_run.specs.declared.end.ClientAnswers.{ClientAnswers};
 ghost use Rattle.tso_run.specs.declared.end.DriverAnswers.{DriverAnswers};
 ghost use Rattle.tso_run.specs.Runs.{run_of};
 
-use pd_types::Window;
+use meta_store::{MetaCall, MetaEntry, MetaVerdict};
+use pd_run::{DriverAnswer, DriverAnswers, DriverSays, Left, StoreAnswer, StoreAnswers, StoreSays};
+use pd_state::{Cluster, Entry};
+use pd_types::{StepMsg, Window};
 use std::alloc::{AllocError, Global};
-use std::fmt;
+use std::{fmt, str};
 use tso_client::{DrawFault, PostEntry, PostWhat};
 use tso_core::Reply;
 use tso_driver::{DriverSaid, LeadReply, TickReply};
-use tso_outcome::{ClientAnswer, ClientSaid, DriverAnswer};
-use tso_run::{ClientAnswers, DriverAnswers, Left};
+use tso_outcome::{ClientAnswer, ClientSaid};
+use tso_run::ClientAnswers;
 
 fn lead_reply(reply: LeadReply) -> Reply
     ensures value { result ≡ lead_reply reply }
@@ -119,12 +122,54 @@ fn put_windows(text: &mut String, windows: &[Window]) -> Result<(), AllocError>
     Ok(())
 }
 
+// A driver's answer, as it prints.
+fn put_driver_answer(text: &mut String, answer: &DriverAnswer) -> Result<(), AllocError> {
+    let line = answer.line;
+    match &answer.says {
+        DriverSays::Oracle(said) => put_reply(text, line, driver_reply(*said)),
+        DriverSays::Cluster(reply) | DriverSays::Resigned { reply, .. } => {
+            writeln!(text, "{line} {reply}")
+        }
+    }
+}
+
 // All answers of a driver.
-fn put_driver_answers(text: &mut String, answers: &[DriverAnswer]) -> Result<(), AllocError>
-    ensures text { OnOk result (string_bytes text.new ≡ string_bytes text.old ++ flat_map (λ (a : DriverAnswer). reply_line a.line (driver_reply a.said)) answers.now) }
-{
+fn put_driver_answers(text: &mut String, answers: &[DriverAnswer]) -> Result<(), AllocError> {
     for answer in answers {
-        put_reply(text, answer.line, driver_reply(answer.said))?;
+        put_driver_answer(text, answer)?;
+    }
+    Ok(())
+}
+
+// A store's answer, as it prints.
+fn put_store_answer(text: &mut String, answer: &StoreAnswer) -> Result<(), AllocError> {
+    let line = answer.line;
+    match &answer.says {
+        StoreSays::Cluster(reply) => writeln!(text, "{line} {reply}"),
+        StoreSays::Popped(None) => writeln!(text, "{line} empty"),
+        StoreSays::Popped(Some(message)) => put_popped(text, line, message),
+    }
+}
+
+// The line of a step that a store took.
+fn put_popped(text: &mut String, line: u32, message: &StepMsg) -> Result<(), AllocError> {
+    let StepMsg {
+        term,
+        entry,
+        region,
+        step,
+        ..
+    } = message;
+    writeln!(
+        text,
+        "{line} popped term {term} entry {entry} region {region} {step}"
+    )
+}
+
+// All answers of a store.
+fn put_store_answers(text: &mut String, answers: &[StoreAnswer]) -> Result<(), AllocError> {
+    for answer in answers {
+        put_store_answer(text, answer)?;
     }
     Ok(())
 }
@@ -140,14 +185,88 @@ fn put_client_answers(text: &mut String, answers: &[ClientAnswer]) -> Result<(),
 }
 
 // A driver's answers behind its head, where it has some.
-fn put_driver(text: &mut String, driver: &DriverAnswers) -> Result<(), AllocError>
-    ensures text { OnOk result (string_bytes text.new ≡ string_bytes text.old ++ driver_section driver.now.number driver.now.answers.items) }
-{
+fn put_driver(text: &mut String, driver: &DriverAnswers) -> Result<(), AllocError> {
     if driver.answers.is_empty() {
         return Ok(());
     }
     writeln!(text, "driver {}", driver.number)?;
     put_driver_answers(text, &driver.answers)
+}
+
+// A store's answers behind its head.
+fn put_store(text: &mut String, store: &StoreAnswers) -> Result<(), AllocError> {
+    writeln!(text, "store {}", store.store)?;
+    put_store_answers(text, &store.answers)
+}
+
+fn put_stores(text: &mut String, stores: &[StoreAnswers]) -> Result<(), AllocError> {
+    for store in stores {
+        put_store(text, store)?;
+    }
+    Ok(())
+}
+
+// The entries of a driver's journal, each with its number in the journal.
+fn put_entries(text: &mut String, entries: &[Entry]) -> Result<(), AllocError> {
+    for (i, entry) in entries.iter().enumerate() {
+        writeln!(text, "{} line {} {}", i as u64 + 1, entry.line, entry.reply)?;
+    }
+    Ok(())
+}
+
+// The journal of each driver behind its head.
+fn put_journals(text: &mut String, clusters: &[Cluster]) -> Result<(), AllocError> {
+    for (i, cluster) in clusters.iter().enumerate() {
+        writeln!(text, "journal {}", i as u64 + 1)?;
+        put_entries(text, cluster.journal().as_slice())?;
+    }
+    Ok(())
+}
+
+// A key of the metadata, which is text.
+fn put_key(text: &mut String, key: &[u8]) -> Result<(), AllocError> {
+    match str::from_utf8(key) {
+        Ok(key) => text.push_str(key),
+        Err(_) => Ok(()),
+    }
+}
+
+// A call of a driver to the metadata.
+fn put_call(text: &mut String, call: &MetaCall) -> Result<(), AllocError> {
+    match call {
+        MetaCall::Lead { term } => write!(text, "lead {term}"),
+        MetaCall::Put { term, key, .. } => {
+            write!(text, "put {term} ")?;
+            put_key(text, key.as_slice())
+        }
+        MetaCall::Delete { term, key, .. } => {
+            write!(text, "delete {term} ")?;
+            put_key(text, key.as_slice())
+        }
+    }
+}
+
+// What the metadata answered.
+fn put_verdict(text: &mut String, verdict: &MetaVerdict) -> Result<(), AllocError> {
+    match verdict {
+        MetaVerdict::Accepted { revision } => write!(text, "accepted {revision}"),
+        MetaVerdict::OldTerm { fence } => write!(text, "old-term {fence}"),
+        MetaVerdict::Conflict { found } => write!(text, "conflict {found}"),
+        MetaVerdict::Limit => write!(text, "meta-limit"),
+    }
+}
+
+// The journal of the metadata behind its head.
+fn put_meta(text: &mut String, entries: &[MetaEntry]) -> Result<(), AllocError> {
+    text.push_str("meta\n")?;
+    for (i, entry) in entries.iter().enumerate() {
+        write!(text, "{} driver {} ", i as u64 + 1, entry.driver)?;
+        put_call(text, &entry.call)?;
+        text.push_str(" ")?;
+        put_verdict(text, &entry.verdict)?;
+        text.push_str("\n")?;
+    }
+    Ok(())
 }
 
 // A client's answers behind its head, where it has some.
@@ -211,6 +330,9 @@ pub fn run_text(alloc: Global, left: &Left) -> Result<String, AllocError>
     put_windows(&mut text, left.ledger.windows().as_slice())?;
     put_drivers(&mut text, &left.drivers)?;
     put_clients(&mut text, &left.clients)?;
+    put_stores(&mut text, &left.stores)?;
+    put_journals(&mut text, &left.clusters)?;
+    put_meta(&mut text, left.meta.as_slice())?;
     put_post(&mut text, left.post.as_slice())?;
     Ok(text)
 }

@@ -151,10 +151,11 @@ fn script_response<B: Seated>(
 }
 
 // The text of a script's run on threads.
-fn run_on_threads<R: Threads + Wait + Sync, G: Gate + Sync>(
+fn run_on_threads<R: Threads + Wait + Sync, B: Seated + Drop + Send, G: Gate + Sync>(
     rt: &R,
     alloc: Global,
-    script: &Script,
+    script: Script,
+    benches: &mut Vec<B>,
     gate: &G,
 ) -> Result<String, NoMemory>
     requires lawful { IsLawfulScript OnThreads script.now }
@@ -162,15 +163,16 @@ fn run_on_threads<R: Threads + Wait + Sync, G: Gate + Sync>(
 {
     let cell = opening_cell(script.lines.as_slice());
     let crew = open(alloc, script.drivers, script.clients, cell)?;
-    let (text, _) = run_script(rt, alloc, script, crew, gate)?;
+    let (text, _) = run_script(rt, alloc, script, benches, crew, gate)?;
     Ok(text)
 }
 
 // The response to a script that runs on threads.
-fn threads_response<R: Threads + Wait + Sync, G: Gate + Sync>(
+fn threads_response<R: Threads + Wait + Sync, B: Seated + Drop + Send, G: Gate + Sync>(
     rt: &R,
     alloc: Global,
     text: &[u8],
+    benches: &mut Vec<B>,
     gate: &G,
 ) -> Result<Response, NoMemory>
     requires { length text.now ≤ 16777216 }
@@ -179,7 +181,7 @@ fn threads_response<R: Threads + Wait + Sync, G: Gate + Sync>(
 {
     match read_script(alloc, text, Mode::Run) {
         Ok(script) => {
-            let text = run_on_threads(rt, alloc, &script, gate)?;
+            let text = run_on_threads(rt, alloc, script, benches, gate)?;
             Ok(Response {
                 status: Status::Done,
                 text,
@@ -190,7 +192,7 @@ fn threads_response<R: Threads + Wait + Sync, G: Gate + Sync>(
 }
 
 // The response to a text, as a script in this mode.
-fn text_response<R: Threads + Wait + Sync, B: Seated, G: Gate + Sync>(
+fn text_response<R: Threads + Wait + Sync, B: Seated + Drop + Send, G: Gate + Sync>(
     rt: &R,
     alloc: Global,
     mode: Mode,
@@ -206,12 +208,12 @@ fn text_response<R: Threads + Wait + Sync, B: Seated, G: Gate + Sync>(
 {
     match mode {
         Mode::Replay => script_response(alloc, text, benches),
-        Mode::Run => threads_response(rt, alloc, text, gate),
+        Mode::Run => threads_response(rt, alloc, text, benches, gate),
     }
 }
 
 // The response to what the source gives, as a script in this mode.
-fn source_response<R: Threads + Wait + Sync, S: Source, B: Seated, G: Gate + Sync>(
+fn source_response<R: Threads + Wait + Sync, S: Source, B: Seated + Drop + Send, G: Gate + Sync>(
     rt: &R,
     alloc: Global,
     mode: Mode,
@@ -236,7 +238,7 @@ fn source_response<R: Threads + Wait + Sync, S: Source, B: Seated, G: Gate + Syn
 }
 
 // What is to be written, for a command and what the source gives.
-fn respond<R: Threads + Wait + Sync, S: Source, B: Seated, G: Gate + Sync>(
+fn respond<R: Threads + Wait + Sync, S: Source, B: Seated + Drop + Send, G: Gate + Sync>(
     rt: &R,
     alloc: Global,
     command: Command,
@@ -278,7 +280,7 @@ fn write_out<K: Sink>(response: &Response, sink: &mut K) -> Status
 /// drivers' benches of schedulers, the first of which is the first driver's. `run` alone starts
 /// threads and asks the gate: each line is answered once the gate lets its actor, or was asked
 /// 1,000,000 times, and the gate hears of the answer.
-pub fn pd_top<R: Threads + Wait + Sync, S: Source, K: Sink, B: Seated, G: Gate + Sync>(
+pub fn pd_top<R: Threads + Wait + Sync, S: Source, K: Sink, B: Seated + Drop + Send, G: Gate + Sync>(
     rt: &R,
     alloc: Global,
     words: &[String],

@@ -1,19 +1,18 @@
 -- The script of a text is lawful.
 use Rattle.std.proofs.Common.{◌≡◌, ◌<◌, ◌≤◌, ℕ, ◌+◌, List, [], ◌∷◌, Bool, true, false, cond, map, get_or, Option, Some, None, refl, sym, ap, subst, ◌∙◌, arith}
 use Rattle.std.specs.Prelude.{IfSome, Result, Ok, Err}
-use Rattle.std.specs.Option.{is_some}
 use Rattle.std.specs.List.{AllByRecursion}
 use Rattle.std.proofs.lemmas.List.{length-map}
 use Rattle.std.proofs.lemmas.List.Elements.{All-from_recursion}
 use Rattle.pd_lines.specs.Numeral.{number_of}
 use Rattle.pd_script.specs.Asks.{asked_of, request_verb_of}
-use Rattle.pd_script.specs.Grammar.{AtFault, by_request_verb, with_request, and_event, and_line, and_number, arity, by_verb, content_of, event_of, events_from, events_of, has_bad_byte, is_passed_over, listed, numbers_of, padded, raw_content, read_places, some_event, unless, with_numbers}
+use Rattle.pd_script.specs.Grammar.{AtFault, by_request_verb, with_request, and_event, and_line, and_number, arity, by_verb, content_of, event_of, events_from, events_of, has_bad_byte, is_passed_over, listed, numbers_of, padded, raw_content, read_places, some_event, unless, step_of, with_numbers}
 use Rattle.pd_script.specs.Formed.{IsAsked}
-use Rattle.pd_script.specs.Lawful.{AreLawful, IsFormed, IsInRange, IsLawful, IsLawfulScript, IsServed, standing_of}
+use Rattle.pd_script.specs.Lawful.{AreLawful, IsFormed, IsInRange, IsLawful, IsLawfulScript, standing_of}
 use Rattle.pd_script.specs.Places.{most, read_place}
 use Rattle.pd_script.specs.Says.{Says, says}
-use Rattle.pd_script.specs.Scripts.{act_by, act_of, broken_by, client_of, driver_of, greatest, greatest_in, if_client, if_driver, line_of, script_by, script_of, unless_broken}
-use Rattle.pd_script.specs.Table.{is_misplaced, is_unknown, known_in, row, verb_of}
+use Rattle.pd_script.specs.Scripts.{act_of, broken_by, client_of, driver_of, greatest, greatest_in, if_client, if_driver, line_of, script_by, script_of, unless_broken}
+use Rattle.pd_script.specs.Table.{is_misplaced, row, verb_of}
 use Rattle.pd_script.specs.Words.{RawLine, behind_word, raw_lines, words}
 use Rattle.pd_script.specs.declared.limits.Broken.{Broken}
 use Rattle.pd_script.specs.declared.place.Place.{Place}
@@ -22,10 +21,8 @@ use Rattle.pd_script.specs.declared.refusal.Reason.{Reason}
 use Rattle.pd_script.specs.declared.refusal.Reason.TheVariants.{BadByte, Misplaced, NoNewline, UnknownWord}
 use Rattle.pd_script.specs.declared.refusal.ScriptRefusal.TheVariants.{Fault, Limit}
 use Rattle.pd_script.specs.declared.script.Mode.{Mode}
-use Rattle.pd_script.specs.declared.script.Mode.TheVariants.{Replay, Run}
 use Rattle.pd_script.specs.declared.script.Script.{Script}
 use Rattle.pd_script.specs.declared.act.Act.{Act}
-use Rattle.pd_script.specs.declared.act.Act.TheVariants.{Ask as AskAct}
 use Rattle.pd_script.specs.declared.act.Line.{Line}
 use Rattle.pd_script.specs.declared.ask.Asked.{Asked}
 use Rattle.pd_script.specs.declared.event.Event.{Event}
@@ -94,7 +91,7 @@ numbers_in places ws numbers is = padded_in places (unless (arity (listed places
 -- an event that was read
 abbrev IsRead : Mode → Bool → Event → Type 0
 IsRead mode first (Step verb numbers) = (is_misplaced mode first (row verb).standing ≡ false) × InRange (row verb).places numbers
-IsRead mode first (Ask driver request) = (0 < driver) × IsAsked request × (mode ≡ Replay)
+IsRead mode first (Ask driver request) = (0 < driver) × IsAsked request
 
 with_read : (mode : Mode) (first : Bool) (verb : Verb) (r : Result Numbers Reason) (e : Event) → is_misplaced mode first (row verb).standing ≡ false → ((n : Numbers) → r ≡ Ok n → InRange (row verb).places n) → with_numbers verb r ≡ Ok e → IsRead mode first e
 with_read mode first verb (Err reason) e placed range is = no_fine reason e is
@@ -104,23 +101,20 @@ placed_read : (mode : Mode) (first : Bool) (ws : List (List ℕ)) (verb : Verb) 
 placed_read mode first ws verb e true placed is = no_fine Misplaced e is
 placed_read mode first ws verb e false placed is = with_read mode first verb (numbers_of (row verb).places ws) e placed (λ n same. numbers_in (row verb).places ws n same) is
 
-known_read : (mode : Mode) (first : Bool) (ws : List (List ℕ)) (verb : Verb) (e : Event) (unknown : Bool)
-    → cond {A = Result Event Reason} unknown (Err UnknownWord) (cond {A = Result Event Reason} (is_misplaced mode first (row verb).standing) (Err Misplaced) (with_numbers verb (numbers_of (row verb).places ws))) ≡ Ok e → IsRead mode first e
-known_read mode first ws verb e true is = no_fine UnknownWord e is
-known_read mode first ws verb e false is = placed_read mode first ws verb e (is_misplaced mode first (row verb).standing) refl is
+step_read : (mode : Mode) (first : Bool) (ws : List (List ℕ)) (verb : Verb) (e : Event) → step_of mode first verb ws ≡ Ok e → IsRead mode first e
+step_read mode first ws verb e is = placed_read mode first ws verb e (is_misplaced mode first (row verb).standing) refl is
 
-request_read : (first : Bool) (r : Result Asked Reason) (e : Event) → ((a : Asked) → r ≡ Ok a → IsFine a) → with_request r ≡ Ok e → IsRead Replay first e
-request_read first (Err reason) e fine is = no_fine reason e is
-request_read first (Ok a) e fine is = let one = fine a refl in subst (λ (x : Event). IsRead Replay first x) (same_ok (Ask a.driver a.request) e is) (one.pos, one.asked, refl)
+request_read : (mode : Mode) (first : Bool) (r : Result Asked Reason) (e : Event) → ((a : Asked) → r ≡ Ok a → IsFine a) → with_request r ≡ Ok e → IsRead mode first e
+request_read mode first (Err reason) e fine is = no_fine reason e is
+request_read mode first (Ok a) e fine is = let one = fine a refl in subst (λ (x : Event). IsRead mode first x) (same_ok (Ask a.driver a.request) e is) (one.pos, one.asked)
 
-ask_read : (mode : Mode) (first : Bool) (rest : List ℕ) (o : Option RequestVerb) (e : Event) → by_request_verb rest (known_in mode o) ≡ Ok e → IsRead mode first e
-ask_read Run first rest o e is = no_fine UnknownWord e is
-ask_read Replay first rest None e is = no_fine UnknownWord e is
-ask_read Replay first rest (Some verb) e is = request_read first (asked_of verb rest) e (λ a same. asked_ok verb rest a same) is
+ask_read : (mode : Mode) (first : Bool) (rest : List ℕ) (o : Option RequestVerb) (e : Event) → by_request_verb rest o ≡ Ok e → IsRead mode first e
+ask_read mode first rest None e is = no_fine UnknownWord e is
+ask_read mode first rest (Some verb) e is = request_read mode first (asked_of verb rest) e (λ a same. asked_ok verb rest a same) is
 
-verb_read : (mode : Mode) (first : Bool) (rest : List ℕ) (o : Option Verb) (other : Option RequestVerb) (e : Event) → by_verb mode first rest o (known_in mode other) ≡ Ok e → IsRead mode first e
+verb_read : (mode : Mode) (first : Bool) (rest : List ℕ) (o : Option Verb) (other : Option RequestVerb) (e : Event) → by_verb mode first rest o other ≡ Ok e → IsRead mode first e
 verb_read mode first rest None other e is = ask_read mode first rest other e is
-verb_read mode first rest (Some verb) other e is = known_read mode first (words rest) verb e (is_unknown mode (row verb).standing) is
+verb_read mode first rest (Some verb) other e is = step_read mode first (words rest) verb e is
 
 event_read : (mode : Mode) (first : Bool) (ws : List (List ℕ)) (rest : List ℕ) (e : Event) → event_of mode first ws rest ≡ Ok e → IsRead mode first e
 event_read mode first [] rest e is = no_fine UnknownWord e is
@@ -185,20 +179,14 @@ record IsGood (mode : Mode) (drivers clients : ℕ) (first : Bool) (act : Act) :
   placed : is_misplaced mode first (standing_of act) ≡ false
   lawful : IsLawful drivers clients act
   formed : IsFormed act
-  served : IsServed mode act
-
-not_asked : (mode : Mode) (act : Act) → (says act).asked ≡ None → IsServed mode act
-not_asked Replay act none = tt
-not_asked Run act none = ap is_some none
 
 good_event : (mode : Mode) (drivers clients : ℕ) (first : Bool) (e : Event) → IsRead mode first e → driver_of e ≤ drivers → client_of e ≤ clients → IsGood mode drivers clients first (act_of e)
 good_event mode drivers clients first (Step verb numbers) read most others = let same = same_says verb numbers in record {
   placed = ap (λ (s : Says). is_misplaced mode first s.standing) same ∙ read.0;
   lawful = subst (λ (s : Says). AllByRecursion (IsInRange drivers clients) s.numbers) (sym same) (all_in_range drivers clients (row verb).places numbers read.1 most others);
   formed = subst (λ (s : Says). IfSome s.asked IsAsked) (sym same) tt;
-  served = not_asked mode (act_by verb numbers) (ap (λ (s : Says). s.asked) same);
 }
-good_event mode drivers clients first (Ask driver request) read most others = record { placed = refl; lawful = (record { low = omega (arith, read.0); high = most }, tt); formed = read.1; served = subst (λ (m : Mode). IsServed m (AskAct driver request)) (sym read.2) tt }
+good_event mode drivers clients first (Ask driver request) read most others = record { placed = refl; lawful = (record { low = omega (arith, read.0); high = most }, tt); formed = read.1 }
 
 -- all lines
 lawful_lines : (mode : Mode) (drivers clients : ℕ) (first : Bool) (events : List Numbered) → AreRead mode first events → greatest driver_of events ≤ drivers → greatest client_of events ≤ clients → AreLawful mode drivers clients first (map line_of events)
@@ -210,10 +198,6 @@ lawful_lines mode drivers clients first (e ∷ es) read most others =
 formed_lines : (mode : Mode) (first : Bool) (events : List Numbered) → AreRead mode first events → AllByRecursion (λ (line : Line). IsFormed line.act) (map line_of events)
 formed_lines mode first [] read = tt
 formed_lines mode first (e ∷ es) read = ((good_event mode (driver_of e.event) (client_of e.event) first e.event read.0 (omega arith) (omega arith)).formed, formed_lines mode false es read.1)
-
-served_lines : (mode : Mode) (first : Bool) (events : List Numbered) → AreRead mode first events → AllByRecursion (λ (line : Line). IsServed mode line.act) (map line_of events)
-served_lines mode first [] read = tt
-served_lines mode first (e ∷ es) read = ((good_event mode (driver_of e.event) (client_of e.event) first e.event read.0 (omega arith) (omega arith)).served, served_lines mode false es read.1)
 
 -- the lines, where no limit is broken
 unbroken_lawful : (mode : Mode) (events : List Numbered) (script : Script) → broken_by events ≡ None → AreRead mode true events → AreAbove 1 events → unless_broken events None ≡ Ok script → IsLawfulScript mode script
@@ -228,7 +212,6 @@ unbroken_lawful mode events script unbroken read above is =
       rise = rising_from 1 events above;
       actors = same_actors events;
       formed = All-from_recursion (λ (line : Line). IsFormed line.act) (map line_of events) (formed_lines mode true events read);
-      served = All-from_recursion (λ (line : Line). IsServed mode line.act) (map line_of events) (served_lines mode true events read);
       most_drivers = drivers_greatest events;
       most_clients = clients_greatest events;
       events = grind (arith, length-map, kept.few);

@@ -3,7 +3,7 @@ use Rattle.std.specs.Prelude.{ℕ, ◌+◌, List, [], ◌∷◌, get_or, Bool, t
 use Rattle.std.specs.List.{list_any}
 use Rattle.pd_script.specs.Asks.{asked_of, request_verb_of}
 use Rattle.pd_script.specs.Places.{read_place}
-use Rattle.pd_script.specs.Table.{is_misplaced, is_unknown, known_in, row, verb_of}
+use Rattle.pd_script.specs.Table.{is_misplaced, row, verb_of}
 use Rattle.pd_script.specs.Words.{RawLine, behind_word, raw_lines, words}
 use Rattle.pd_script.specs.declared.ask.Asked.{Asked}
 use Rattle.pd_script.specs.declared.place.Place.{Place}
@@ -75,8 +75,7 @@ by_request_verb rest (Some verb) = with_request (asked_of verb rest)
 -- what a line says that is no request
 abbrev pub step_of : Mode → Bool → Verb → List (List ℕ) → Result Event Reason
 step_of mode first verb ws =
-    if is_unknown mode (row verb).standing then Err UnknownWord
-    else if is_misplaced mode first (row verb).standing then Err Misplaced
+    if is_misplaced mode first (row verb).standing then Err Misplaced
     else with_numbers verb (numbers_of (row verb).places ws)
 
 -- what a line with this first word says, by what stands behind it: one that is no request, or else a request
@@ -87,7 +86,7 @@ by_verb mode first rest (Some verb) other = step_of mode first verb (words rest)
 -- what a line of these words says, by what stands behind the first
 abbrev pub event_of : Mode → Bool → List (List ℕ) → List ℕ → Result Event Reason
 event_of mode first [] rest = Err UnknownWord
-event_of mode first (w ∷ ws) rest = by_verb mode first rest (verb_of w) (known_in mode (request_verb_of w))
+event_of mode first (w ∷ ws) rest = by_verb mode first rest (verb_of w) (request_verb_of w)
 
 -- the word begins with `#`
 abbrev pub is_comment : List ℕ → Bool

@@ -1,6 +1,6 @@
 -- What is true of every script that is read: the words of its lines are in the ranges and forms of the grammar, its lines are
 -- numbered, have their actors and stand where they may, its drivers and clients are the greatest named, and its limits hold.
-use Rattle.std.specs.Prelude.{◌≡◌, ◌⊎◌, ℕ, ◌<◌, ◌≤◌, List, [], ◌∷◌, length, Bool, true, false, Option, IfSome, IsNone, All, AllPairs, Contains, flat_map, option_to_list}
+use Rattle.std.specs.Prelude.{◌≡◌, ◌⊎◌, ℕ, ◌<◌, ◌≤◌, List, [], ◌∷◌, length, Bool, true, false, Option, IfSome, All, AllPairs, Contains, flat_map, option_to_list}
 use Rattle.std.specs.List.{AllByRecursion, count_by}
 use Rattle.pd_types.specs.declared.oracle.Actor.{Actor}
 use Rattle.pd_script.specs.Formed.{IsAsked}
@@ -13,7 +13,6 @@ use Rattle.pd_script.specs.declared.act.Line.{Line}
 use Rattle.pd_script.specs.declared.place.Place.{Place}
 use Rattle.pd_script.specs.declared.place.Place.TheVariants.{Driver, Client}
 use Rattle.pd_script.specs.declared.script.Mode.{Mode}
-use Rattle.pd_script.specs.declared.script.Mode.TheVariants.{Replay, Run}
 use Rattle.pd_script.specs.declared.script.Script.{Script}
 use Rattle.pd_script.specs.declared.verb.Standing.{Standing}
 
@@ -50,11 +49,6 @@ AreLawful mode drivers clients first (line ∷ lines) = (is_misplaced mode first
 abbrev pub IsFormed : Act → Type 0
 IsFormed act = IfSome (says act).asked IsAsked
 
--- nothing is asked of a cluster in `run`
-abbrev pub IsServed : Mode → Act → Type 0
-IsServed Replay act = Unit {0}
-IsServed Run act = IsNone (says act).asked
-
 -- who acts
 abbrev pub actor_in : Act → Option Actor
 actor_in act = (says act).actor
@@ -83,7 +77,7 @@ pub record AreAtMost (most : ℕ) (numbers : List ℕ) : Type 0 where
   pub all : All (Contains kept) numbers
 
 -- 1 to 7 drivers and 1 to 64 clients, the greatest that are named, and lawful lines for them; line numbers that rise from 1
--- or more, each line's actor the one of its act, what is asked of a cluster in its form, and in `run` nothing of it; at most
+-- or more, each line's actor the one of its act, and what is asked of a cluster in its form; at most
 -- 65,536 lines, 256 stores that speak and 1,024 lines `lead` and `publish`
 pub record IsLawfulScript (mode : Mode) (script : Script) : Type 0 where
   pub drivers : IsOneOf 7 script.drivers
@@ -93,7 +87,6 @@ pub record IsLawfulScript (mode : Mode) (script : Script) : Type 0 where
   pub rise : AllPairs (λ one later. one.number < later.number) script.lines
   pub actors : All (λ line. line.actor ≡ actor_in line.act) script.lines
   pub formed : All (λ line. IsFormed line.act) script.lines
-  pub served : All (λ line. IsServed mode line.act) script.lines
   pub most_drivers : IsGreatest (flat_map (λ line. drivers_named line.act) script.lines) script.drivers
   pub most_clients : IsGreatest (flat_map (λ line. clients_named line.act) script.lines) script.clients
   pub events : length script.lines ≤ 65536

@@ -10,7 +10,7 @@ use Rattle.pd_script.specs.declared.act.Act.TheVariants.{Cell, Lead, Tick, Resig
 use Rattle.pd_script.specs.declared.place.Place.{Place}
 use Rattle.pd_script.specs.declared.place.Place.TheVariants.{Driver, Client, Moment, Count, Saved, Term, Id}
 use Rattle.pd_script.specs.declared.verb.Standing.{Standing}
-use Rattle.pd_script.specs.declared.verb.Standing.TheVariants.{Anywhere, Opening, SingleStep, Served}
+use Rattle.pd_script.specs.declared.verb.Standing.TheVariants.{Anywhere, Opening, SingleStep}
 
 -- what one line says: where it may stand, who acts, the numbers in their places, and the request that a cluster is asked
 pub record Says : Type 0 where
@@ -42,7 +42,7 @@ says (Look client driver) = no_request SingleStep (Some (ByClient client)) ((Cli
 says (Arm client n) = no_request SingleStep (Some (ByClient client)) ((Client, client) ∷ (Count, n) ∷ [])
 says (Draw client) = no_request SingleStep (Some (ByClient client)) ((Client, client) ∷ [])
 says (Ask driver request) = record { standing = Anywhere; actor = Some (asker driver request); numbers = (Driver, driver) ∷ []; asked = Some request }
-says (Pop store driver) = no_request Served (Some (ByStore store)) ((Id, store) ∷ (Driver, driver) ∷ [])
+says (Pop store driver) = no_request Anywhere (Some (ByStore store)) ((Id, store) ∷ (Driver, driver) ∷ [])
 
 -- a driver's number, or none in another place
 abbrev pub named_driver : Place × ℕ → List ℕ

@@ -9,7 +9,7 @@ use Rattle.pd_script.specs.declared.script.Mode.TheVariants.{Replay, Run}
 use Rattle.pd_script.specs.declared.verb.Places.{Places}
 use Rattle.pd_script.specs.declared.verb.Places.TheVariants.{One, Two, Three}
 use Rattle.pd_script.specs.declared.verb.Standing.{Standing}
-use Rattle.pd_script.specs.declared.verb.Standing.TheVariants.{Anywhere, Opening, SingleStep, Served}
+use Rattle.pd_script.specs.declared.verb.Standing.TheVariants.{Anywhere, Opening, SingleStep}
 use Rattle.pd_script.specs.declared.request_verb.RequestVerb.{RequestVerb}
 use Rattle.pd_script.specs.declared.verb.TheConstants.{VERBS}
 use Rattle.pd_script.specs.declared.verb.Verb.{Verb}
@@ -39,31 +39,16 @@ row Probe = record { name = codes "probe"; places = Two Driver Moment; standing 
 row Look = record { name = codes "look"; places = Two Client Driver; standing = SingleStep }
 row Arm = record { name = codes "arm"; places = Two Client Count; standing = SingleStep }
 row Draw = record { name = codes "draw"; places = One Client; standing = SingleStep }
-row Pop = record { name = codes "pop"; places = Two Id Driver; standing = Served }
+row Pop = record { name = codes "pop"; places = Two Id Driver; standing = Anywhere }
 
 -- the one of all first words that a word names
 abbrev pub verb_of : List ℕ → Option Verb
 verb_of word = find (λ verb. bytes_eq word (row verb).name) VERBS
 
--- the line may not stand here: a `cell` line behind another event; in `run` a single step, or what clusters are served for
+-- the line may not stand here: a `cell` line behind another event; in `run` a single step
 abbrev pub is_misplaced : Mode → Bool → Standing → Bool
 is_misplaced mode first Anywhere = false
 is_misplaced mode true Opening = false
 is_misplaced mode false Opening = true
 is_misplaced Replay first SingleStep = false
 is_misplaced Run first SingleStep = true
-is_misplaced Replay first Served = false
-is_misplaced Run first Served = true
-
--- the first word isn't known: in `run` what clusters are served for
-abbrev pub is_unknown : Mode → Standing → Bool
-is_unknown Replay standing = false
-is_unknown Run Anywhere = false
-is_unknown Run Opening = false
-is_unknown Run SingleStep = false
-is_unknown Run Served = true
-
--- what asks a cluster is known in `replay` alone: `run` serves none
-abbrev pub known_in : Mode → Option RequestVerb → Option RequestVerb
-known_in Replay verb = verb
-known_in Run verb = None

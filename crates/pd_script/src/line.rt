@@ -4,7 +4,7 @@ ghost use Rattle.pd_script.specs.Asks.{request_verb_of};
 ghost use Rattle.pd_script.specs.Grammar.{by_request_verb, content_of, event_of, has_bad_byte, numbers_of, step_of};
 ghost use Rattle.pd_script.specs.Refusals.{IsLineRefusal};
 ghost use Rattle.pd_script.specs.Words.{behind_word, words};
-ghost use Rattle.pd_script.specs.Table.{is_misplaced, is_unknown};
+ghost use Rattle.pd_script.specs.Table.{is_misplaced};
 
 use crate::ask::{Asked, read_asked};
 use crate::event::Event;
@@ -92,15 +92,8 @@ fn misplaced(mode: Mode, first: bool, standing: Standing) -> bool
     match standing {
         Standing::Anywhere => false,
         Standing::Opening => !first,
-        Standing::SingleStep | Standing::Served => mode == Mode::Run,
+        Standing::SingleStep => mode == Mode::Run,
     }
-}
-
-// Whether the first word of a line with this standing isn't known.
-fn unknown(mode: Mode, standing: Standing) -> bool
-    ensures value { result ≡ is_unknown mode standing }
-{
-    mode == Mode::Run && standing == Standing::Served
 }
 
 // What a line says that is no request.
@@ -108,9 +101,6 @@ fn step(mode: Mode, first: bool, verb: Verb, rest: &[u8]) -> Result<Event, Reaso
     ensures value { result ≡ step_of mode first verb (words rest.now) }
 {
     let row = verb.row();
-    if unknown(mode, row.standing) {
-        return Err(Reason::UnknownWord);
-    }
     if misplaced(mode, first, row.standing) {
         return Err(Reason::Misplaced);
     }
@@ -143,9 +133,7 @@ fn event(
 {
     match verb_of(name) {
         Some(verb) => Ok(step(mode, first, verb, rest)?),
-        None if mode == Mode::Replay => ask(alloc, name, rest),
-        // No cluster is served on threads.
-        None => Err(LineRefusal::Fault(Reason::UnknownWord)),
+        None => ask(alloc, name, rest),
     }
 }
 

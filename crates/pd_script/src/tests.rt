@@ -255,20 +255,20 @@ const RUN: &str = "\
 9 draw
 4 lead 1
 0 take 1 1 1
-3 hello 1 1 1 a
-3 alive
-3 pop 1 1
-3 pop
-3 beat x
-3 rule
-3 rule 1 1000 {}
-3 unrule 1
-3 unrule 1 1000 pd default
-3 schedule 1 1000
-3 ctl 1 1000 store
-3 check
-3 check 1 1000 7
-3 patrol 1 1000 1
+0 hello 1 1 1 a
+4 alive
+0 pop 1 1
+4 pop
+4 beat x
+4 rule
+0 rule 1 1000 {}
+4 unrule 1
+0 unrule 1 1000 pd default
+0 schedule 1 1000
+0 ctl 1 1000 store
+4 check
+0 check 1 1000 7
+0 patrol 1 1000 1
 ";
 
 // The number of the reason of the first line, 0 where the text is a script.

@@ -6,7 +6,7 @@ ghost use Rattle.pd_script.specs.Table.{row, verb_of};
 use crate::place::Place;
 use crate::place::Place::{Client, Count, Driver, Id, Moment, Saved, Term};
 use Places::{One, Three, Two};
-use Standing::{Anywhere, Opening, Served, SingleStep};
+use Standing::{Anywhere, Opening, SingleStep};
 
 /// The first words of lines.
 #[derive(Clone, Copy, Debug, PartialEq, Eq)]
@@ -38,8 +38,6 @@ pub enum Standing {
     Opening,
     /// In `replay` alone, a single step of the oracle.
     SingleStep,
-    /// In `replay` alone, where clusters are served: `run` doesn't know its word.
-    Served,
 }
 
 /// The places behind the first word, one to three.
@@ -126,7 +124,7 @@ impl Verb {
             Verb::Look => row_of("look", Two(Client, Driver), SingleStep),
             Verb::Arm => row_of("arm", Two(Client, Count), SingleStep),
             Verb::Draw => row_of("draw", One(Client), SingleStep),
-            Verb::Pop => row_of("pop", Two(Id, Driver), Served),
+            Verb::Pop => row_of("pop", Two(Id, Driver), Anywhere),
         }
     }
 }

@@ -1,4 +1,4 @@
-//! Drivers and clients of the oracle, each on a thread of its own.
+//! What a driver and a client of the oracle do on a line, and workers that do their work at once.
 #![tactic(auto)]
 
 mod caller;
@@ -7,13 +7,14 @@ mod end;
 mod halve;
 mod laws;
 mod line;
-mod runner;
 mod shared;
 mod start;
-#[cfg(test)]
-mod tests;
 
-pub use end::{ClientAnswers, DriverAnswers};
+pub use caller::ClientWork;
+pub use driving::answer;
+pub use end::{ClientAnswers, ClientParts, client_parts};
+pub use halve::{Work, work_all, work_both};
 pub use laws::each_line_is_its_actors;
-pub use line::{ClientAsk, ClientLine, DriverAsk, DriverLine};
-pub use runner::{Left, run};
+pub use line::{ClientAsk, ClientLine, DriverAsk};
+pub use shared::{Shared, pass};
+pub use start::client_works;

@@ -8,14 +8,6 @@ pub enum DriverAsk {
     Resign,
 }
 
-/// A line that a driver answers, with its number in the script.
-#[derive(Clone, Copy, Debug, Drop, PartialEq, Eq)]
-pub struct DriverLine {
-    pub number: u32,
-    pub driver: u8,
-    pub ask: DriverAsk,
-}
-
 /// What a client is asked: to draw `n` timestamps at a driver, to leave a note for a client, or to hear
 /// the oldest note that was left for it.
 #[derive(Clone, Copy, Debug, Drop, PartialEq, Eq)]

@@ -1,5 +1,5 @@
-// What all workers of a run share, and the gate that holds them back.
-use crate::line::{ClientLine, DriverLine};
+// What the workers of clients share, and the gate that holds workers back.
+use crate::line::ClientLine;
 use pd_types::{Actor, Gate};
 use std::thread;
 use tso_board::Board;
@@ -8,13 +8,12 @@ use tso_client::{BoardName, Post};
 // How often a worker asks the gate at most before it goes on.
 const MOST_ASKS: u32 = 1_000_000;
 
-/// The board and the post, the lines of all actors, and the gate.
+/// The board and the post, the gate, and the lines of all clients.
 #[derive(Drop)]
 pub struct Shared<'a, N: BoardName, G> {
     pub board: &'a Board,
     pub post: &'a Post<N>,
     pub gate: &'a G,
-    pub drivers: &'a [DriverLine],
     pub clients: &'a [ClientLine],
 }
 

@@ -9,41 +9,13 @@ ghost use Rattle.tso_client.specs.Slips.{clients_of, new_slip};
 ghost use Rattle.tso_run.specs.Works.{IsNewClient, IsNewDriver};
 
 use crate::caller::ClientWork;
-use crate::driving::DriverWork;
 use pd_types::NoMemory;
 use std::alloc::Global;
-use tso_board::{Board, DriverSeat, Pass};
+use tso_board::{Board, Pass};
 use tso_client::{BoardName, Post, Slips};
-use tso_driver::Driver;
-
-/// A worker for each driver, by rising numbers.
-pub fn drivers(
-    alloc: Global,
-    _board: &Board,
-    seats: Vec<DriverSeat>,
-) -> Result<Vec<DriverWork>, NoMemory>
-    requires drivers { (setup_of _board.now).drivers ≤ 7 }
-    requires seats { All (λ s. IsSeatOf s _board.now) seats.items }
-    requires views { map seat_view seats.items ≡ map (driver_view (setup_of _board.now)) (numbers_from 1 (setup_of _board.now).drivers) }
-    ensures new { IfOk result (λ works. All (IsNewDriver _board.now) works.items) }
-    ensures numbers { IfOk result (λ works. map (λ w. w.number) works.items ≡ numbers_from 1 (setup_of _board.now).drivers) }
-{
-    let mut works = Vec::new(alloc);
-    let mut number = 0u8;
-    for seat in seats {
-        number += 1;
-        works.push(DriverWork {
-            number,
-            driver: Driver::of(seat),
-            answers: Vec::new(alloc),
-            failed: false,
-        })?;
-    }
-    Ok(works)
-}
 
 /// A worker for each client, by rising numbers.
-pub fn clients<N: BoardName>(
+pub fn client_works<N: BoardName>(
     alloc: Global,
     _board: &Board,
     _post: &Post<N>,

@@ -1,0 +1,145 @@
+// What all workers leave.
+use crate::answer::{DriverAnswers, StoreAnswers};
+use crate::driving::DriverWork;
+use crate::storing::{Port, StoreWork};
+use meta_store::MetaSeat;
+use pd_shared::{ClusterName, Givers, Share, SharedCluster, Shares};
+use pd_state::Cluster;
+use pd_types::NoMemory;
+use std::alloc::Global;
+use std::sync::Wait;
+use step_stream::Taker;
+use tso_board::DriverSeat;
+
+// The shares of one cluster, and for each store the end of its stream that popped.
+#[derive(Drop)]
+struct Ends<N: ClusterName> {
+    shares: Shares<N>,
+    takers: Vec<(u64, Taker)>,
+}
+
+// All ends at the first driver's cluster of those that are left.
+fn ends_of<N: ClusterName>(
+    alloc: Global,
+    share: Share<N>,
+    stores: &mut Vec<StoreWork<N>>,
+) -> Result<Ends<N>, NoMemory> {
+    let mut shares = Vec::new(alloc);
+    let mut takers = Vec::new(alloc);
+    shares.push(share)?;
+    for store in stores.iter_mut() {
+        let Port { share, taker, .. } = store.ports.remove(0);
+        shares.push(share)?;
+        takers.push((store.store, taker))?;
+    }
+    Ok(Ends { shares, takers })
+}
+
+// Settles the stream to this store.
+fn settle<R: Wait>(rt: &R, givers: &mut Givers, store: u64, taker: Taker) {
+    let Some(place) = givers.iter().position(|outlet| outlet.store() == store) else {
+        unreachable!()
+    };
+    givers[place].settle(rt, taker);
+}
+
+// A cluster once it is closed and its streams are settled, with its seat at the metadata.
+#[derive(Drop)]
+struct Closing {
+    cluster: Cluster,
+    seat: MetaSeat,
+}
+
+fn close<N: ClusterName, R: Wait>(
+    rt: &R,
+    cluster: SharedCluster<N>,
+    ends: Ends<N>,
+) -> Result<Closing, NoMemory> {
+    let Ends { shares, takers } = ends;
+    let closed = cluster.close(rt, shares)?;
+    let mut givers = closed.givers;
+    for (store, taker) in takers {
+        settle(rt, &mut givers, store, taker);
+    }
+    Ok(Closing {
+        cluster: closed.cluster,
+        seat: closed.seat,
+    })
+}
+
+/// What all drivers leave: their seats at the oracle and at the metadata, their answers, and their
+/// clusters.
+#[derive(Drop)]
+pub struct DriverParts {
+    pub oracle: Vec<DriverSeat>,
+    pub meta: Vec<MetaSeat>,
+    pub answers: Vec<DriverAnswers>,
+    pub clusters: Vec<Cluster>,
+}
+
+impl DriverParts {
+    fn add<N: ClusterName, B: Drop, R: Wait>(
+        &mut self,
+        rt: &R,
+        alloc: Global,
+        work: DriverWork<N, B>,
+        cluster: SharedCluster<N>,
+        stores: &mut Vec<StoreWork<N>>,
+    ) -> Result<(), NoMemory> {
+        if work.failed {
+            return Err(NoMemory);
+        }
+        let ends = ends_of(alloc, work.share, stores)?;
+        let Closing { cluster, seat } = close(rt, cluster, ends)?;
+        self.clusters.push(cluster)?;
+        self.meta.push(seat)?;
+        self.oracle.push(work.driver.into_seat())?;
+        self.answers.push(DriverAnswers {
+            number: work.number,
+            answers: work.answers,
+        })?;
+        Ok(())
+    }
+}
+
+/// What all drivers leave, unless memory was wanting to one of them; their clusters are closed.
+pub fn driver_parts<N: ClusterName, B: Drop, R: Wait>(
+    rt: &R,
+    alloc: Global,
+    drivers: Vec<DriverWork<N, B>>,
+    clusters: Vec<SharedCluster<N>>,
+    stores: &mut Vec<StoreWork<N>>,
+) -> Result<DriverParts, NoMemory> {
+    let mut parts = DriverParts {
+        oracle: Vec::new(alloc),
+        meta: Vec::new(alloc),
+        answers: Vec::new(alloc),
+        clusters: Vec::new(alloc),
+    };
+    let mut clusters = clusters.into_iter();
+    for driver in drivers {
+        let Some(cluster) = clusters.next() else {
+            unreachable!()
+        };
+        parts.add(rt, alloc, driver, cluster, stores)?;
+    }
+    Ok(parts)
+}
+
+/// The answers of all stores, unless memory was wanting to one of them.
+pub fn store_answers<N: ClusterName>(
+    alloc: Global,
+    works: Vec<StoreWork<N>>,
+) -> Result<Vec<StoreAnswers>, NoMemory> {
+    let mut answers = Vec::new(alloc);
+    for work in works {
+        if work.failed {
+            return Err(NoMemory);
+        }
+        answers.push(StoreAnswers {
+            store: work.store,
+            answers: work.answers,
+        })?;
+    }
+    Ok(answers)
+}

@@ -1,0 +1,18 @@
+//! Drivers with their clusters, clients and stores, each on a thread of its own.
+#![tactic(auto)]
+
+mod answer;
+mod begin;
+mod driving;
+mod end;
+mod line;
+mod pipe;
+mod runner;
+mod shared;
+mod storing;
+
+pub use answer::{
+    DriverAnswer, DriverAnswers, DriverSays, StoreAnswer, StoreAnswers, StoreSays, asked_besides,
+};
+pub use line::{DriverLine, DriverTask, StoreLine, StoreLines, StoreTask, Tasks};
+pub use runner::{Left, run};

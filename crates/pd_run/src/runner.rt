@@ -1,0 +1,228 @@
+// A run: all drivers, clients and stores answer their lines, each on a thread of its own.
+use crate::answer::{DriverAnswers, StoreAnswers};
+use crate::begin::{Start, Workers, begin};
+use crate::driving::DriverWork;
+use crate::end::{driver_parts, store_answers};
+use crate::line::{DriverLine, StoreLines, Tasks};
+use crate::pipe::{Pipe, open_pipes};
+use crate::shared::Shared;
+use meta_store::{MetaJournal, MetaSeat, MetaSeats};
+use pd_shared::ClusterName;
+use pd_state::Cluster;
+use pd_types::{Gate, NoMemory};
+use sched_api::Seated;
+use std::alloc::Global;
+use std::marker::Brand;
+use std::mem;
+use std::sync::Wait;
+use std::thread::{Threads, join_mut};
+use std::vec::IntoIter;
+use tso_board::{Board, Crew, DriverSeat, Ledger, gather};
+use tso_client::{BoardName, PostJournal};
+use tso_run::{ClientAnswers, ClientLine, client_parts, work_all};
+
+/// What a run leaves: each actor's answers, the clusters with their journals, from the first driver's on,
+/// the journals of the metadata and of the post, and the windows and batches of the board.
+#[derive(Drop)]
+pub struct Left {
+    pub drivers: Vec<DriverAnswers>,
+    pub clients: Vec<ClientAnswers>,
+    pub stores: Vec<StoreAnswers>,
+    pub clusters: Vec<Cluster>,
+    pub meta: MetaJournal,
+    pub post: PostJournal,
+    pub ledger: Ledger,
+}
+
+// What each driver begins with. The seats at the metadata that no driver takes stay.
+fn starts_of(
+    alloc: Global,
+    oracle: Vec<DriverSeat>,
+    metas: &mut MetaSeats,
+    pipes: Vec<Vec<Pipe>>,
+    lines: Vec<Vec<DriverLine>>,
+) -> Result<Vec<Start>, NoMemory> {
+    let mut starts = Vec::new(alloc);
+    let mut pipes = pipes.into_iter();
+    let mut lines = lines.into_iter();
+    let mut driver = 0u8;
+    for oracle in oracle {
+        driver += 1;
+        let Some(pipes) = pipes.next() else {
+            unreachable!()
+        };
+        let Some(lines) = lines.next() else {
+            unreachable!()
+        };
+        // The first seat is nobody's.
+        let meta = metas.seats.remove(1);
+        starts.push(Start {
+            driver,
+            oracle,
+            meta,
+            pipes,
+            lines,
+        })?;
+    }
+    Ok(starts)
+}
+
+// Lends each driver its bench, the first one the first, as far as there are benches.
+fn lend<N: ClusterName, B: Drop>(benches: &mut IntoIter<B>, drivers: &mut Vec<DriverWork<N, B>>) {
+    for driver in drivers.iter_mut() {
+        driver.bench = benches.next();
+    }
+}
+
+// Takes the drivers' benches back, in their order. There is room for them.
+fn take_back<N: ClusterName, B: Drop>(home: &mut Vec<B>, drivers: &mut Vec<DriverWork<N, B>>) {
+    for driver in drivers.iter_mut() {
+        if let Some(bench) = driver.bench.take() {
+            home.push_reserved(bench);
+        }
+    }
+}
+
+// Puts the benches back that no driver had.
+fn put_back<B: Drop>(home: &mut Vec<B>, rest: IntoIter<B>) {
+    for bench in rest {
+        home.push_reserved(bench);
+    }
+}
+
+// All workers answer their lines.
+fn work<N, B, R, G>(
+    rt: &R,
+    alloc: Global,
+    board: &Board,
+    clients: &[ClientLine],
+    gate: &G,
+    workers: &mut Workers<N, B>,
+) where
+    N: BoardName + ClusterName + Send + Sync,
+    B: Seated + Drop + Send,
+    R: Threads + Wait + Sync,
+    G: Gate + Sync,
+{
+    let shared = Shared {
+        alloc,
+        board,
+        gate,
+        clusters: &workers.clusters,
+    };
+    let calling = tso_run::Shared {
+        board,
+        post: &workers.post,
+        gate,
+        clients,
+    };
+    let drivers = workers.drivers.as_mut_slice();
+    let callers = workers.clients.as_mut_slice();
+    let stores = workers.stores.as_mut_slice();
+    join_mut(rt, &mut || { work_all(rt, &shared, drivers) }, &mut || {
+        join_mut(rt, &mut || { work_all(rt, &calling, callers) }, &mut || {
+            work_all(rt, &shared, stores)
+        })
+    });
+}
+
+// What all workers leave, unless memory is wanting.
+fn end<N: BoardName + ClusterName, B: Drop, R: Wait>(
+    rt: &R,
+    alloc: Global,
+    board: Board,
+    metas: MetaSeats,
+    workers: Workers<N, B>,
+) -> Result<Left, NoMemory> {
+    let Workers {
+        post,
+        clusters,
+        drivers,
+        clients,
+        mut stores,
+    } = workers;
+    let mut metas = metas;
+    let mut parts = driver_parts(rt, alloc, drivers, clusters, &mut stores)?;
+    let calls = client_parts(alloc, clients)?;
+    let stores = store_answers(alloc, stores)?;
+    let post = post.close(rt, calls.slips)?;
+    metas.seats.append(&mut parts.meta)?;
+    let meta = metas.close(rt)?;
+    let crew = Crew {
+        board,
+        seats: parts.oracle,
+        passes: calls.passes,
+        notes: Vec::new(alloc),
+    };
+    let Ok(ledger) = gather(crew) else {
+        return Err(NoMemory);
+    };
+    Ok(Left {
+        drivers: parts.answers,
+        clients: calls.answers,
+        stores,
+        clusters: parts.clusters,
+        meta,
+        post,
+        ledger,
+    })
+}
+
+// The same over a board, metadata and streams whose names are given.
+fn run_named<N, B, R, G>(
+    rt: &R,
+    alloc: Global,
+    tasks: Tasks,
+    benches: &mut Vec<B>,
+    crew: Crew,
+    metas: MetaSeats,
+    pipes: Vec<Vec<Pipe>>,
+    gate: &G,
+) -> Result<Left, NoMemory>
+where
+    N: BoardName + ClusterName + Send + Sync,
+    B: Seated + Drop + Send,
+    R: Threads + Wait + Sync,
+    G: Gate + Sync,
+{
+    let Crew {
+        board,
+        seats,
+        passes,
+        ..
+    } = crew;
+    let Tasks {
+        drivers,
+        clients,
+        stores,
+    } = tasks;
+    let mut metas = metas;
+    let starts = starts_of(alloc, seats, &mut metas, pipes, drivers)?;
+    let mut workers = begin::<N, B>(alloc, &board, starts, passes, stores)?;
+    let mut home = Vec::with_capacity(alloc, benches.len())?;
+    let mut lent = mem::replace(benches, Vec::new(alloc)).into_iter();
+    lend(&mut lent, &mut workers.drivers);
+    work(rt, alloc, &board, &clients, gate, &mut workers);
+    take_back(&mut home, &mut workers.drivers);
+    put_back(&mut home, lent);
+    *benches = home;
+    end(rt, alloc, board, metas, workers)
+}
+
+/// Each driver, client and store answers its own lines in their order, on a thread of its own where there
+/// are threads enough, and by its caller else, over a new cluster for each driver of a new crew and new
+/// metadata. A line is answered once the gate lets its actor, which then hears of it. A driver has its
+/// bench while it works, the first one the first, and hands it back; one that has none asks an empty one.
+/// Want of memory of any actor is told in place of all answers.
+pub fn run<B: Seated + Drop + Send, R: Threads + Wait + Sync, G: Gate + Sync>(
+    rt: &R,
+    alloc: Global,
+    tasks: Tasks,
+    benches: &mut Vec<B>,
+    crew: Crew,
+    gate: &G,
+) -> Result<Left, NoMemory> {
+    let metas = MetaSeats::open(alloc)?;
+    let pipes = open_pipes(alloc, crew.seats.len(), tasks.stores.as_slice())?;
+    run_named::<Brand, B, R, G>(rt, alloc, tasks, benches, crew, metas, pipes, gate)
+}
