@@ -1,0 +1,6 @@
+pub mod Answers
+pub mod Turns
+pub mod Heard
+pub mod Tasks
+pub mod Runs
+pub mod Works
