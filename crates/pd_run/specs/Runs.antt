@@ -29,6 +29,7 @@ use Rattle.pd_run.specs.declared.answer.DriverAnswers.{DriverAnswers as DriverLe
 use Rattle.pd_run.specs.declared.answer.StoreAnswer.{StoreAnswer}
 use Rattle.pd_run.specs.declared.answer.StoreAnswers.{StoreAnswers as StoreLeft}
 use Rattle.pd_run.specs.declared.line.DriverLine.{DriverLine}
+use Rattle.pd_run.specs.declared.line.StoreLine.{StoreLine}
 use Rattle.pd_run.specs.declared.line.StoreLines.{StoreLines}
 use Rattle.pd_run.specs.declared.runner.Left.{Left}
 
@@ -128,29 +129,33 @@ pub record IsLawful (run : Run) : Type 0 where
 -- WHOSE LINES WERE ANSWERED
 
 -- a driver answered its lines, and they made its own entries of its cluster's journal
-pub record DriverAnswers (lines : List DriverLine) (part : DriverPart) (journal : Journal) : Type 0 where
+pub record DriverAnswersLines (lines : List DriverLine) (part : DriverPart) (journal : Journal) : Type 0 where
   pub same : journal.driver ≡ part.number
   pub answered : DriverAnswered lines part.answers (entries_of (Driver part.number) journal.entries)
 
 -- each driver did, by its place
 abbrev pub DriversAnswer : List (List DriverLine) → List DriverPart → List Journal → Type 0
 DriversAnswer [] [] [] = Unit {0}
-DriversAnswer (lines ∷ more) (part ∷ parts) (journal ∷ journals) = DriverAnswers lines part journal × DriversAnswer more parts journals
+DriversAnswer (lines ∷ more) (part ∷ parts) (journal ∷ journals) = DriverAnswersLines lines part journal × DriversAnswer more parts journals
 DriversAnswer _ _ _ = ⊥
 
+-- a store with its lines
+abbrev pub lines_of : StoreLines → ℕ × List StoreLine
+lines_of lines = (lines.store, lines.lines.items)
+
 -- a store answered its lines, and they made its own entries of each cluster's journal
-pub record StoreAnswers (journals : List Journal) (lines : StoreLines) (part : StorePart) : Type 0 where
-  pub same : part.store ≡ lines.store
+pub record StoreAnswersLines (journals : List Journal) (lines : ℕ × List StoreLine) (part : StorePart) : Type 0 where
+  pub same : part.store ≡ lines.0
   pub entries : ℕ → List Entry
   pub popped : ℕ → List StepMsg
-  pub answered : StoreAnswered lines.lines.items part.answers entries popped
+  pub answered : StoreAnswered lines.1 part.answers entries popped
   pub own : All (λ (journal : Journal). entries journal.driver ≡ entries_of (Store part.store) journal.entries) journals
 
 -- All drivers and clients of the setup and all stores have a part, and each answered its own lines, one for each, in their order; a line made entries of its
 -- actor's in its driver's journal, and all entries are made by lines
-pub record AnswersTasks (drivers : List (List DriverLine)) (clients : List ClientLine) (stores : List StoreLines) (run : Run) : Type 0 where
+pub record AnswersTasks (drivers : List (List DriverLine)) (clients : List ClientLine) (stores : List (ℕ × List StoreLine)) (run : Run) : Type 0 where
   pub driver_numbers : map (λ (p : DriverPart). p.number) run.drivers ≡ numbers_from 1 run.oracle.setup.drivers
   pub client_numbers : map (λ (p : ClientPart). p.number) run.oracle.clients ≡ numbers_from 1 run.oracle.setup.clients
   pub drivers_answer : DriversAnswer drivers run.drivers run.journals
   pub client_lines : (p : ClientPart) → Contains run.oracle.clients p → map (client_line p.number) p.answers ≡ lines_of_client p.number clients
-  pub stores_answer : AllZip (StoreAnswers run.journals) stores run.stores
+  pub stores_answer : AllZip (StoreAnswersLines run.journals) stores run.stores

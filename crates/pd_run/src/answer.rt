@@ -1,4 +1,7 @@
 // What drivers and stores answer on their lines.
+ghost use Rattle.std.specs.Prelude.{◌≡◌};
+ghost use Rattle.pd_run.specs.Answers.{asked_besides, gave_up};
+
 use pd_state::Reply;
 use pd_types::{Request, StepMsg};
 use tso_driver::{DriverSaid, LeadReply, TickReply};
@@ -53,7 +56,9 @@ pub struct StoreAnswers {
 
 /// What the driver's cluster is asked besides, once the driver answered this: Term where it won a term,
 /// and Retire where it lost its term or gave it up.
-pub fn asked_besides(said: DriverSaid) -> Option<Request> {
+pub fn asked_besides(said: DriverSaid) -> Option<Request>
+    ensures value { result ≡ asked_besides said }
+{
     match said {
         DriverSaid::Led {
             now,
@@ -73,7 +78,9 @@ pub fn asked_besides(said: DriverSaid) -> Option<Request> {
 }
 
 /// Whether the reply says that a command gave the term up.
-pub fn gave_up(reply: &Reply) -> bool {
+pub fn gave_up(reply: &Reply) -> bool
+    ensures value { result ≡ gave_up reply.now }
+{
     match reply {
         Reply::Report { json } => json.as_slice() == b"{\"done\":\"Resigned\"}".as_slice(),
         _ => false,

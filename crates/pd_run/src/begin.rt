@@ -1,5 +1,5 @@
 // All workers before they begin.
-use crate::driving::DriverWork;
+use crate::driving::{DriverWork, Means};
 use crate::line::{DriverLine, StoreLines, Tasks};
 use crate::pipe::Pipe;
 use crate::storing::{Port, StoreWork};
@@ -170,9 +170,11 @@ impl<N: ClusterName, B: Drop> Leading<N, B> {
         self.clusters.push(opened.cluster)?;
         self.drivers.push(DriverWork {
             number: driver,
-            driver: Driver::of(oracle),
-            share: opened.share,
-            bench: None,
+            means: Means {
+                driver: Driver::of(oracle),
+                share: opened.share,
+                bench: None,
+            },
             lines,
             answers: Vec::new(alloc),
             failed: false,

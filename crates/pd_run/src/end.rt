@@ -89,11 +89,11 @@ impl DriverParts {
         if work.failed {
             return Err(NoMemory);
         }
-        let ends = ends_of(alloc, work.share, stores)?;
+        let ends = ends_of(alloc, work.means.share, stores)?;
         let Closing { cluster, seat } = close(rt, cluster, ends)?;
         self.clusters.push(cluster)?;
         self.meta.push(seat)?;
-        self.oracle.push(work.driver.into_seat())?;
+        self.oracle.push(work.means.driver.into_seat())?;
         self.answers.push(DriverAnswers {
             number: work.number,
             answers: work.answers,

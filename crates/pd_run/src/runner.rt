@@ -70,14 +70,14 @@ fn starts_of(
 // Lends each driver its bench, the first one the first, as far as there are benches.
 fn lend<N: ClusterName, B: Drop>(benches: &mut IntoIter<B>, drivers: &mut Vec<DriverWork<N, B>>) {
     for driver in drivers.iter_mut() {
-        driver.bench = benches.next();
+        driver.means.bench = benches.next();
     }
 }
 
 // Takes the drivers' benches back, in their order. There is room for them.
 fn take_back<N: ClusterName, B: Drop>(home: &mut Vec<B>, drivers: &mut Vec<DriverWork<N, B>>) {
     for driver in drivers.iter_mut() {
-        if let Some(bench) = driver.bench.take() {
+        if let Some(bench) = driver.means.bench.take() {
             home.push_reserved(bench);
         }
     }

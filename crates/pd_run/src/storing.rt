@@ -1,9 +1,14 @@
 // A store's worker: it answers its lines, one after the other, by its share of each driver's cluster and by
 // the stream from it.
+ghost use Rattle.std.specs.Prelude.{◌≡◌, [], false, All, IfOk, OnOk, length};
+ghost use Rattle.std.specs.Arc.{arc_value};
+ghost use Rattle.pd_run.specs.Tasks.{GoesTo};
+ghost use Rattle.pd_run.specs.Works.{ArePorts, HasDoneNothing, IsNewStore, PortDone, StaysPort, StoreLineAnswered, StoreLinesAnswered, StoreWorked};
+
 use crate::answer::{StoreAnswer, StoreSays};
 use crate::line::{StoreLine, StoreTask};
 use crate::shared::Shared;
-use pd_shared::{ClusterName, Share};
+use pd_shared::{ClusterName, Share, SharedCluster};
 use pd_types::{Actor, Gate, NoMemory};
 use sched_api::Bench;
 use std::alloc::Global;
@@ -34,39 +39,49 @@ pub struct StoreWork<N: ClusterName> {
     pub failed: bool,
 }
 
-impl<N: ClusterName> StoreWork<N> {
-    // What the driver's cluster replies, or the step that was taken.
-    fn answer<R: Wait, G>(
+impl<N: ClusterName> Port<N> {
+    // What the cluster replies, or the step that was taken. No request of a store asks the bench.
+    fn answer<R: Wait>(
         &mut self,
         rt: &R,
-        shared: &Shared<'_, N, G>,
+        alloc: Global,
+        cluster: &SharedCluster<N>,
         number: u32,
-        driver: u8,
         task: StoreTask,
-    ) -> Result<StoreSays, NoMemory> {
-        let place = (driver - 1) as usize;
-        let port = &mut self.ports[place];
+    ) -> Result<StoreSays, NoMemory>
+        requires cluster { self.old.share.cluster ≡ cluster.now }
+        requires stream { self.old.taker.stream ≡ arc_value self.old.stream }
+        ensures stays { StaysPort self.old self.new }
+        ensures ok { IfOk result (λ says. PortDone number task says self.old self.new) }
+    {
         match task {
             StoreTask::Ask(request) => {
-                // No request of a store asks the bench.
-                let mut bench = Bench::empty(shared.alloc);
-                let cluster = &shared.clusters[place];
-                let reply = cluster.call(rt, &mut port.share, number, request, &mut bench)?;
+                let mut bench = Bench::empty(alloc);
+                let reply = cluster.call(rt, &mut self.share, number, request, &mut bench)?;
                 Ok(StoreSays::Cluster(reply))
             }
             StoreTask::Pop => Ok(StoreSays::Popped(
-                port.stream.pop(rt, &mut port.taker),
+                self.stream.pop(rt, &mut self.taker),
             )),
         }
     }
+}
 
+impl<N: ClusterName> StoreWork<N> {
     // Answers one of its lines, once the gate lets it.
     fn answer_line<R: Wait, G: Gate>(
         &mut self,
         rt: &R,
         shared: &Shared<'_, N, G>,
         line: StoreLine,
-    ) -> Result<(), NoMemory> {
+    ) -> Result<(), NoMemory>
+        requires ports { ArePorts self.old.store shared.now.clusters.now self.old.ports.items }
+        requires line { GoesTo (length shared.now.clusters.now) line }
+        ensures ports { ArePorts self.old.store shared.now.clusters.now self.new.ports.items }
+        ensures store { self.new.store ≡ self.old.store }
+        ensures failed { self.new.failed ≡ self.old.failed }
+        ensures ok { OnOk result (StoreLineAnswered line self.old self.new) }
+    {
         let StoreLine {
             number,
             driver,
@@ -75,7 +90,10 @@ impl<N: ClusterName> StoreWork<N> {
         let actor = Actor::Store(self.store);
         self.answers.reserve(1)?;
         pass(shared.gate, actor, number);
-        let says = self.answer(rt, shared, number, driver, task)?;
+        let place = (driver - 1) as usize;
+        let cluster = &shared.clusters[place];
+        let port = &mut self.ports[place];
+        let says = port.answer(rt, shared.alloc, cluster, number, task)?;
         self.answers.push_reserved(StoreAnswer {
             line: number,
             driver,
@@ -85,9 +103,20 @@ impl<N: ClusterName> StoreWork<N> {
         Ok(())
     }
 
-    // Answers its lines in order, as far as there is memory.
-    fn act<R: Wait, G: Gate>(&mut self, rt: &R, shared: &Shared<'_, N, G>) {
-        let lines = mem::replace(&mut self.lines, Vec::new(shared.alloc));
+    // Answers these lines in order, as far as there is memory.
+    fn answer_all<R: Wait, G: Gate>(
+        &mut self,
+        rt: &R,
+        shared: &Shared<'_, N, G>,
+        lines: Vec<StoreLine>,
+    )
+        requires ports { ArePorts self.old.store shared.now.clusters.now self.old.ports.items }
+        requires lines { All (GoesTo (length shared.now.clusters.now)) lines.items }
+        requires first { self.old.answers.items ≡ [] }
+        requires none { HasDoneNothing self.old.ports.items }
+        requires fine { self.old.failed ≡ false }
+        ensures worked { StoreLinesAnswered shared.now.clusters.now lines.items self.old self.new }
+    {
         for line in lines {
             let Ok(()) = self.answer_line(rt, shared, line) else {
                 self.failed = true;
@@ -95,12 +124,23 @@ impl<N: ClusterName> StoreWork<N> {
             };
         }
     }
+
+    // Answers its lines in order, as far as there is memory.
+    fn act<R: Wait, G: Gate>(&mut self, rt: &R, shared: &Shared<'_, N, G>)
+        requires new { IsNewStore shared.now.clusters.now self.old }
+        ensures worked { StoreWorked shared.now.clusters.now self.old self.new }
+    {
+        let lines = mem::replace(&mut self.lines, Vec::new(shared.alloc));
+        self.answer_all(rt, shared, lines);
+    }
 }
 
 impl<'a, N: ClusterName, G: Gate + Sync> Work<Shared<'a, N, G>> for StoreWork<N> {
-    ghost ready = { λ _ _. Unit {0} };
+    ghost use Rattle.pd_run.specs.Works.{IsNewStore, StoreWorked};
 
-    ghost done = { λ _ _ _. Unit {0} };
+    ghost ready = { λ shared w. IsNewStore shared.clusters.now w };
+
+    ghost done = { λ shared v w. StoreWorked shared.clusters.now v w };
 
     fn work<R: Threads + Wait + Sync>(&mut self, rt: &R, shared: &Shared<'a, N, G>) {
         self.act(rt, shared);
