@@ -4,3 +4,5 @@ pub mod Heard
 pub mod Tasks
 pub mod Runs
 pub mod Works
+pub mod Pipes
+pub mod Crews

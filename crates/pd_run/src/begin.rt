@@ -1,4 +1,19 @@
 // All workers before they begin.
+ghost use Rattle.std.specs.Prelude.{◌≡◌, ◌+◌, ◌++◌, ◌∷◌, [], All, IfOk, OnOk, length, map};
+ghost use Rattle.std.specs.List.{AllZip};
+ghost use Rattle.pd_turn.specs.Turns.{AreApart};
+ghost use Rattle.meta_store.specs.Seats.{new_seat};
+ghost use Rattle.pd_shared.specs.Names.{streams_of};
+ghost use Rattle.pd_shared.specs.Shares.{actor_of, new_share};
+ghost use Rattle.tso_model.specs.Moves.{numbers_from};
+ghost use Rattle.tso_model.specs.Sound.{IsSetup};
+ghost use Rattle.tso_board.specs.Actors.{client_view};
+ghost use Rattle.tso_board.specs.Boards.{board_id, setup_of};
+ghost use Rattle.tso_board.specs.Passes.{IsPassOf, pass_view};
+ghost use Rattle.pd_run.specs.Crews.{AreLed, AreStarts, IsLedStore, IsReady, IsStart};
+ghost use Rattle.pd_run.specs.Tasks.{GoesTo};
+ghost use Rattle.pd_run.specs.Pipes.{ArePipesTo, BeginsStore, GotPorts, IsNewPipe, OpensPort, end_by, outlet_by, pipe_name};
+
 use crate::driving::{DriverWork, Means};
 use crate::line::{DriverLine, StoreLines, Tasks};
 use crate::pipe::Pipe;
@@ -32,7 +47,11 @@ struct PopEnd {
 }
 
 // The end of each stream that is the cluster's, and the one that is the store's.
-fn parted(alloc: Global, pipes: Vec<Pipe>) -> Result<(Givers, Vec<PopEnd>), NoMemory> {
+fn parted(alloc: Global, pipes: Vec<Pipe>) -> Result<(Givers, Vec<PopEnd>), NoMemory>
+    requires new { All IsNewPipe pipes.items }
+    ensures givers { IfOk result (λ r. r.0.items ≡ map outlet_by pipes.items) }
+    ensures ends { IfOk result (λ r. r.1.items ≡ map end_by pipes.items) }
+{
     let mut givers = Vec::new(alloc);
     let mut ends = Vec::new(alloc);
     for pipe in pipes {
@@ -63,7 +82,16 @@ fn open_cluster<N: ClusterName>(
     seat: MetaSeat,
     pipes: Vec<Pipe>,
     stores: &Ids,
-) -> Result<Opened<N>, NoMemory> {
+) -> Result<Opened<N>, NoMemory>
+    requires seat { seat ≡ new_seat N.meta driver }
+    requires streams { streams_of driver N.streams ≡ map (pipe_name driver) pipes.items }
+    requires pipes { ArePipesTo stores.now pipes.items }
+    requires stores { AreApart (0 ∷ stores.now) }
+    ensures driver { IfOk result (λ opened. opened.cluster.driver ≡ driver) }
+    ensures numbers { IfOk result (λ opened. opened.cluster.turn.numbers ≡ 0 ∷ stores.now) }
+    ensures share { IfOk result (λ opened. opened.share ≡ new_share opened.cluster (actor_of driver 0)) }
+    ensures ports { IfOk result (λ opened. AllZip (OpensPort opened.cluster) pipes.items opened.ports.items) }
+{
     let (givers, ends) = parted(alloc, pipes)?;
     let (cluster, shares) = SharedCluster::open(alloc, driver, seat, givers, stores)?;
     let mut shares = shares.into_iter();
@@ -93,7 +121,10 @@ fn open_cluster<N: ClusterName>(
 fn hand_out<N: ClusterName>(
     stores: &mut Vec<StoreWork<N>>,
     ports: Vec<Port<N>>,
-) -> Result<(), NoMemory> {
+) -> Result<(), NoMemory>
+    requires same { length ports.items ≡ length stores.old.items }
+    ensures got { OnOk result (GotPorts ports.items stores.old.items stores.new.items) }
+{
     let mut ports = ports.into_iter();
     for store in stores.iter_mut() {
         let Some(port) = ports.next() else {
@@ -108,7 +139,9 @@ fn hand_out<N: ClusterName>(
 fn store_works<N: ClusterName>(
     alloc: Global,
     stores: Vec<StoreLines>,
-) -> Result<Vec<StoreWork<N>>, NoMemory> {
+) -> Result<Vec<StoreWork<N>>, NoMemory>
+    ensures begin { IfOk result (λ works. AllZip BeginsStore stores.items works.items) }
+{
     let mut works = Vec::new(alloc);
     for lines in stores {
         let StoreLines { store, lines } = lines;
@@ -124,7 +157,9 @@ fn store_works<N: ClusterName>(
 }
 
 // The ids of the stores.
-fn ids_of<N: ClusterName>(alloc: Global, stores: &[StoreWork<N>]) -> Result<Ids, NoMemory> {
+fn ids_of<N: ClusterName>(alloc: Global, stores: &[StoreWork<N>]) -> Result<Ids, NoMemory>
+    ensures value { IfOk result (λ ids. ids ≡ map (λ w. w.store) stores.now) }
+{
     let mut ids = Ids::new(alloc);
     for store in stores {
         ids.push(store.store)?;
@@ -154,10 +189,23 @@ impl<N: ClusterName, B: Drop> Leading<N, B> {
     fn add(
         &mut self,
         alloc: Global,
+        _board: &Board,
         stores: &mut Vec<StoreWork<N>>,
         ids: &Ids,
         start: Start,
-    ) -> Result<(), NoMemory> {
+    ) -> Result<(), NoMemory>
+        requires start { IsStart _board.now N.meta N.streams ids.now (length self.old.clusters.items) start }
+        requires apart { AreApart (0 ∷ ids.now) }
+        requires ids { map (λ w. w.store) stores.old.items ≡ ids.now }
+        requires led { AreLed _board.now ids.now self.old.clusters.items self.old.drivers.items }
+        requires stores { All (IsLedStore N.streams self.old.clusters.items) stores.old.items }
+        ensures count { OnOk result (length self.new.clusters.items ≡ length self.old.clusters.items + 1) }
+        ensures ids { OnOk result (map (λ w. w.store) stores.new.items ≡ ids.now) }
+        ensures led { OnOk result (AreLed _board.now ids.now self.new.clusters.items self.new.drivers.items) }
+        ensures stores { OnOk result (All (IsLedStore N.streams self.new.clusters.items) stores.new.items) }
+        ensures lines { OnOk result (map (λ w. w.lines) self.new.drivers.items ≡ map (λ w. w.lines) self.old.drivers.items ++ start.lines ∷ []) }
+        ensures store_lines { OnOk result (map (λ w. w.lines) stores.new.items ≡ map (λ w. w.lines) stores.old.items) }
+    {
         let Start {
             driver,
             oracle,
@@ -183,6 +231,35 @@ impl<N: ClusterName, B: Drop> Leading<N, B> {
     }
 }
 
+// The clusters, their drivers, and the stores with a port to each of them.
+fn lead<N: ClusterName, B: Drop>(
+    alloc: Global,
+    board: &Board,
+    starts: Vec<Start>,
+    stores: &mut Vec<StoreWork<N>>,
+    ids: &Ids,
+) -> Result<Leading<N, B>, NoMemory>
+    requires starts { AreStarts board.now N.meta N.streams ids.now 0 starts.items }
+    requires apart { AreApart (0 ∷ ids.now) }
+    requires ids { map (λ w. w.store) stores.old.items ≡ ids.now }
+    requires stores { All (IsLedStore N.streams []) stores.old.items }
+    ensures count { IfOk result (λ leading. length leading.clusters.items ≡ length starts.items) }
+    ensures ids { OnOk result (map (λ w. w.store) stores.new.items ≡ ids.now) }
+    ensures led { IfOk result (λ leading. AreLed board.now ids.now leading.clusters.items leading.drivers.items) }
+    ensures stores { IfOk result (λ leading. All (IsLedStore N.streams leading.clusters.items) stores.new.items) }
+    ensures lines { IfOk result (λ leading. map (λ w. w.lines) leading.drivers.items ≡ map (λ start. start.lines) starts.items) }
+    ensures store_lines { OnOk result (map (λ w. w.lines) stores.new.items ≡ map (λ w. w.lines) stores.old.items) }
+{
+    let mut leading = Leading {
+        clusters: Vec::new(alloc),
+        drivers: Vec::new(alloc),
+    };
+    for start in starts {
+        leading.add(alloc, board, stores, ids, start)?;
+    }
+    Ok(leading)
+}
+
 /// All workers, before they begin: no driver has its bench yet.
 pub fn begin<N: BoardName + ClusterName, B: Drop>(
     alloc: Global,
@@ -190,19 +267,24 @@ pub fn begin<N: BoardName + ClusterName, B: Drop>(
     starts: Vec<Start>,
     passes: Vec<Pass>,
     stores: Vec<StoreLines>,
-) -> Result<Workers<N, B>, NoMemory> {
+) -> Result<Workers<N, B>, NoMemory>
+    requires named { board_id board.now ≡ N.board }
+    requires setup { IsSetup (setup_of board.now) }
+    requires starts { AreStarts board.now N.meta N.streams (map (λ lines. lines.store) stores.items) 0 starts.items }
+    requires drivers { length starts.items ≡ (setup_of board.now).drivers }
+    requires passes { All (λ p. IsPassOf p board.now) passes.items }
+    requires views { map pass_view passes.items ≡ map (client_view (setup_of board.now)) (numbers_from 1 (setup_of board.now).clients) }
+    requires apart { AreApart (0 ∷ map (λ lines. lines.store) stores.items) }
+    requires within { All (λ lines. All (GoesTo (setup_of board.now).drivers) lines.lines.items) stores.items }
+    ensures ready { IfOk result (IsReady N.board N.streams board.now) }
+    ensures lines { IfOk result (λ workers. map (λ w. w.lines) workers.drivers.items ≡ map (λ start. start.lines) starts.items) }
+    ensures store_lines { IfOk result (λ workers. map (λ w. record { store = w.store; lines = w.lines }) workers.stores.items ≡ stores.items) }
+{
     let mut stores = store_works(alloc, stores)?;
     let ids = ids_of(alloc, &stores)?;
-    let mut leading = Leading {
-        clusters: Vec::new(alloc),
-        drivers: Vec::new(alloc),
-    };
-    for start in starts {
-        leading.add(alloc, &mut stores, &ids, start)?;
-    }
+    let Leading { clusters, drivers } = lead(alloc, board, starts, &mut stores, &ids)?;
     let (post, slips) = Post::<N>::open(alloc, board, passes.len() as u8)?;
     let clients = client_works(alloc, board, &post, passes, slips)?;
-    let Leading { clusters, drivers } = leading;
     Ok(Workers {
         post,
         clusters,

@@ -1,4 +1,7 @@
 // The streams from each driver's cluster to each store that acts.
+ghost use Rattle.std.specs.Prelude.{◌≡◌, All, IfOk, length, map};
+ghost use Rattle.pd_run.specs.Pipes.{ArePipesTo, IsNewPipe};
+
 use crate::line::StoreLines;
 use pd_types::NoMemory;
 use std::alloc::Global;
@@ -14,7 +17,10 @@ pub struct Pipe {
     pub taker: Taker,
 }
 
-fn open_pipe(alloc: Global, store: u64) -> Result<Pipe, NoMemory> {
+fn open_pipe(alloc: Global, store: u64) -> Result<Pipe, NoMemory>
+    ensures new { IfOk result IsNewPipe }
+    ensures store { IfOk result (λ pipe. pipe.store ≡ store) }
+{
     let (stream, giver, taker) = Stream::open(alloc)?;
     let stream = Arc::new(alloc, stream)?;
     Ok(Pipe {
@@ -26,7 +32,9 @@ fn open_pipe(alloc: Global, store: u64) -> Result<Pipe, NoMemory> {
 }
 
 // A stream to each store, from one driver's cluster.
-fn pipes_to(alloc: Global, stores: &[StoreLines]) -> Result<Vec<Pipe>, NoMemory> {
+fn pipes_to(alloc: Global, stores: &[StoreLines]) -> Result<Vec<Pipe>, NoMemory>
+    ensures pipes { IfOk result (λ pipes. ArePipesTo (map (λ lines. lines.store) stores.now) pipes.items) }
+{
     let mut pipes = Vec::new(alloc);
     for lines in stores {
         pipes.push(open_pipe(alloc, lines.store)?)?;
@@ -39,7 +47,10 @@ pub fn open_pipes(
     alloc: Global,
     drivers: usize,
     stores: &[StoreLines],
-) -> Result<Vec<Vec<Pipe>>, NoMemory> {
+) -> Result<Vec<Vec<Pipe>>, NoMemory>
+    ensures each { IfOk result (λ pipes. All (λ one. ArePipesTo (map (λ lines. lines.store) stores.now) one.items) pipes.items) }
+    ensures drivers { IfOk result (λ pipes. length pipes.items ≡ drivers) }
+{
     let mut pipes = Vec::new(alloc);
     for _ in 0..drivers {
         pipes.push(pipes_to(alloc, stores)?)?;
