@@ -6,6 +6,7 @@ use pd_script::Script;
 use pd_types::{Gate, NoMemory};
 use sched_api::Seated;
 use std::alloc::Global;
+use std::mem;
 use std::sync::Wait;
 use std::thread::Threads;
 use tso_board::{Crew, Ledger};
@@ -21,7 +22,9 @@ pub fn run_script<R: Threads + Wait + Sync, B: Seated + Drop + Send, G: Gate + S
     gate: &G,
 ) -> Result<(String, Ledger), NoMemory> {
     let tasks = tasks_of(alloc, script)?;
-    let left = run(rt, alloc, tasks, benches, crew, gate)?;
+    let lent = mem::replace(benches, Vec::new(alloc));
+    let (left, back) = run(rt, alloc, tasks, lent, crew, gate)?;
     let text = run_text(alloc, &left)?;
+    *benches = back;
     Ok((text, left.ledger))
 }

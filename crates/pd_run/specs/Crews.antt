@@ -1,5 +1,5 @@
 -- All workers of a run: before they begin, and when they have worked.
-use Rattle.std.specs.Prelude.{◌≡◌, ℕ, ◌+◌, List, [], ◌∷◌, false, All, Contains, Option, None, length, map}
+use Rattle.std.specs.Prelude.{◌≡◌, ℕ, ◌+◌, List, [], ◌∷◌, false, All, Contains, length, map}
 use Rattle.std.specs.List.{AllZip}
 use Rattle.atomic_table.specs.Seated.{TableId}
 use Rattle.pd_turn.specs.Turns.{TurnValue}
@@ -26,7 +26,7 @@ use Rattle.pd_run.specs.Works.{ArePorts, DriverWorked, HasDoneNothing, IsNewDriv
 
 -- what the driver behind so many others begins with: a new seat at the board and one at the metadata, and a new stream to each of these stores, which are all
 -- streams that are listed for it
-pub record IsStart (board : Board) (meta : TurnValue) (streams : List StreamName) (stores : List ℕ) (before : ℕ) (start : Start) : Type 0 where
+pub record IsStart {B : Type 0} (board : Board) (meta : TurnValue) (streams : List StreamName) (stores : List ℕ) (before : ℕ) (start : Start B) : Type 0 where
   pub driver : start.driver ≡ before + 1
   pub oracle_is : IsSeatOf start.oracle board
   pub view : seat_view start.oracle ≡ driver_view (setup_of board) (before + 1)
@@ -35,17 +35,16 @@ pub record IsStart (board : Board) (meta : TurnValue) (streams : List StreamName
   pub listed : streams_of (before + 1) streams ≡ map (pipe_name (before + 1)) start.pipes.items
 
 -- what the drivers behind so many others begin with
-abbrev pub AreStarts : Board → TurnValue → List StreamName → List ℕ → ℕ → List Start → Type 0
+abbrev pub AreStarts : {B : Type 0} → Board → TurnValue → List StreamName → List ℕ → ℕ → List (Start B) → Type 0
 AreStarts board meta streams stores before [] = Unit {0}
 AreStarts board meta streams stores before (start ∷ starts) = IsStart board meta streams stores before start × AreStarts board meta streams stores (before + 1) starts
 
--- the clusters of the first drivers, each with a share for its driver and one for each of these stores; and these drivers, who did nothing yet and have no bench
+-- the clusters of the first drivers, each with a share for its driver and one for each of these stores; and these drivers, who did nothing yet
 pub record AreLed {N B : Type 0} (board : Board) (stores : List ℕ) (clusters : List SharedValue) (drivers : List (DriverWork N B)) : Type 0 where
   pub numbers : map (λ (c : SharedValue). c.driver) clusters ≡ numbers_from 1 (length clusters)
   pub shares : All (λ (c : SharedValue). c.turn.numbers ≡ 0 ∷ stores) clusters
   pub driver_numbers : map (λ (w : DriverWork N B). w.number) drivers ≡ numbers_from 1 (length clusters)
   pub new : All (IsNewDriver board clusters) drivers
-  pub benches : All (λ (w : DriverWork N B). w.means.bench ≡ None) drivers
 
 -- these streams to a store are those of the drivers' clusters, from this driver's on
 abbrev pub AreNamed : List StreamName → ℕ → ℕ → List TableId → Type 0

@@ -167,14 +167,16 @@ fn ids_of<N: ClusterName>(alloc: Global, stores: &[StoreWork<N>]) -> Result<Ids,
     Ok(ids)
 }
 
-/// What each driver begins with: its seats at the oracle and at the metadata, its streams, and its lines.
+/// What each driver begins with: its seats at the oracle and at the metadata, its streams, its lines, and
+/// its bench, if it has one.
 #[derive(Drop)]
-pub struct Start {
+pub struct Start<B> {
     pub driver: u8,
     pub oracle: DriverSeat,
     pub meta: MetaSeat,
     pub pipes: Vec<Pipe>,
     pub lines: Vec<DriverLine>,
+    pub bench: Option<B>,
 }
 
 // What is opened by and by: the clusters and their drivers' workers.
@@ -185,14 +187,14 @@ struct Leading<N: ClusterName, B> {
 }
 
 impl<N: ClusterName, B: Drop> Leading<N, B> {
-    // Opens a driver's cluster, and gives each store its port to it. The driver has no bench yet.
+    // Opens a driver's cluster, and gives each store its port to it.
     fn add(
         &mut self,
         alloc: Global,
         _board: &Board,
         stores: &mut Vec<StoreWork<N>>,
         ids: &Ids,
-        start: Start,
+        start: Start<B>,
     ) -> Result<(), NoMemory>
         requires start { IsStart _board.now N.meta N.streams ids.now (length self.old.clusters.items) start }
         requires apart { AreApart (0 ∷ ids.now) }
@@ -204,6 +206,7 @@ impl<N: ClusterName, B: Drop> Leading<N, B> {
         ensures led { OnOk result (AreLed _board.now ids.now self.new.clusters.items self.new.drivers.items) }
         ensures stores { OnOk result (All (IsLedStore N.streams self.new.clusters.items) stores.new.items) }
         ensures lines { OnOk result (map (λ w. w.lines) self.new.drivers.items ≡ map (λ w. w.lines) self.old.drivers.items ++ start.lines ∷ []) }
+        ensures benches { OnOk result (map (λ w. w.means.bench) self.new.drivers.items ≡ map (λ w. w.means.bench) self.old.drivers.items ++ start.bench ∷ []) }
         ensures store_lines { OnOk result (map (λ w. w.lines) stores.new.items ≡ map (λ w. w.lines) stores.old.items) }
     {
         let Start {
@@ -212,6 +215,7 @@ impl<N: ClusterName, B: Drop> Leading<N, B> {
             meta,
             pipes,
             lines,
+            bench,
         } = start;
         let opened = open_cluster(alloc, driver, meta, pipes, ids)?;
         hand_out(stores, opened.ports)?;
@@ -221,7 +225,7 @@ impl<N: ClusterName, B: Drop> Leading<N, B> {
             means: Means {
                 driver: Driver::of(oracle),
                 share: opened.share,
-                bench: None,
+                bench,
             },
             lines,
             answers: Vec::new(alloc),
@@ -235,7 +239,7 @@ impl<N: ClusterName, B: Drop> Leading<N, B> {
 fn lead<N: ClusterName, B: Drop>(
     alloc: Global,
     board: &Board,
-    starts: Vec<Start>,
+    starts: Vec<Start<B>>,
     stores: &mut Vec<StoreWork<N>>,
     ids: &Ids,
 ) -> Result<Leading<N, B>, NoMemory>
@@ -248,6 +252,7 @@ fn lead<N: ClusterName, B: Drop>(
     ensures led { IfOk result (λ leading. AreLed board.now ids.now leading.clusters.items leading.drivers.items) }
     ensures stores { IfOk result (λ leading. All (IsLedStore N.streams leading.clusters.items) stores.new.items) }
     ensures lines { IfOk result (λ leading. map (λ w. w.lines) leading.drivers.items ≡ map (λ start. start.lines) starts.items) }
+    ensures benches { IfOk result (λ leading. map (λ w. w.means.bench) leading.drivers.items ≡ map (λ start. start.bench) starts.items) }
     ensures store_lines { OnOk result (map (λ w. w.lines) stores.new.items ≡ map (λ w. w.lines) stores.old.items) }
 {
     let mut leading = Leading {
@@ -260,11 +265,11 @@ fn lead<N: ClusterName, B: Drop>(
     Ok(leading)
 }
 
-/// All workers, before they begin: no driver has its bench yet.
+/// All workers, before they begin.
 pub fn begin<N: BoardName + ClusterName, B: Drop>(
     alloc: Global,
     board: &Board,
-    starts: Vec<Start>,
+    starts: Vec<Start<B>>,
     passes: Vec<Pass>,
     stores: Vec<StoreLines>,
 ) -> Result<Workers<N, B>, NoMemory>
@@ -278,6 +283,7 @@ pub fn begin<N: BoardName + ClusterName, B: Drop>(
     requires within { All (λ lines. All (GoesTo (setup_of board.now).drivers) lines.lines.items) stores.items }
     ensures ready { IfOk result (IsReady N.board N.streams board.now) }
     ensures lines { IfOk result (λ workers. map (λ w. w.lines) workers.drivers.items ≡ map (λ start. start.lines) starts.items) }
+    ensures benches { IfOk result (λ workers. map (λ w. w.means.bench) workers.drivers.items ≡ map (λ start. start.bench) starts.items) }
     ensures store_lines { IfOk result (λ workers. map (λ w. record { store = w.store; lines = w.lines }) workers.stores.items ≡ stores.items) }
 {
     let mut stores = store_works(alloc, stores)?;

@@ -67,18 +67,19 @@ fn close<N: ClusterName, R: Wait>(
     })
 }
 
-/// What all drivers leave: their seats at the oracle and at the metadata, their answers, and their
-/// clusters.
+/// What all drivers leave: their seats at the oracle and at the metadata, their answers, their clusters,
+/// and their benches.
 #[derive(Drop)]
-pub struct DriverParts {
+pub struct DriverParts<B> {
     pub oracle: Vec<DriverSeat>,
     pub meta: Vec<MetaSeat>,
     pub answers: Vec<DriverAnswers>,
     pub clusters: Vec<Cluster>,
+    pub benches: Vec<B>,
 }
 
-impl DriverParts {
-    fn add<N: ClusterName, B: Drop, R: Wait>(
+impl<B: Drop> DriverParts<B> {
+    fn add<N: ClusterName, R: Wait>(
         &mut self,
         rt: &R,
         alloc: Global,
@@ -94,6 +95,9 @@ impl DriverParts {
         self.clusters.push(cluster)?;
         self.meta.push(seat)?;
         self.oracle.push(work.means.driver.into_seat())?;
+        if let Some(bench) = work.means.bench {
+            self.benches.push(bench)?;
+        }
         self.answers.push(DriverAnswers {
             number: work.number,
             answers: work.answers,
@@ -109,12 +113,13 @@ pub fn driver_parts<N: ClusterName, B: Drop, R: Wait>(
     drivers: Vec<DriverWork<N, B>>,
     clusters: Vec<SharedCluster<N>>,
     stores: &mut Vec<StoreWork<N>>,
-) -> Result<DriverParts, NoMemory> {
+) -> Result<DriverParts<B>, NoMemory> {
     let mut parts = DriverParts {
         oracle: Vec::new(alloc),
         meta: Vec::new(alloc),
         answers: Vec::new(alloc),
         clusters: Vec::new(alloc),
+        benches: Vec::new(alloc),
     };
     let mut clusters = clusters.into_iter();
     for driver in drivers {

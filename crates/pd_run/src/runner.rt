@@ -13,7 +13,6 @@ use pd_types::{Gate, NoMemory};
 use sched_api::Seated;
 use std::alloc::Global;
 use std::marker::Brand;
-use std::mem;
 use std::sync::Wait;
 use std::thread::{Threads, join_mut};
 use std::vec::IntoIter;
@@ -34,14 +33,16 @@ pub struct Left {
     pub ledger: Ledger,
 }
 
-// What each driver begins with. The seats at the metadata that no driver takes stay.
-fn starts_of(
+// What each driver begins with, the first one with the first bench, as far as there are benches. The seats
+// at the metadata that no driver takes stay.
+fn starts_of<B: Drop>(
     alloc: Global,
     oracle: Vec<DriverSeat>,
     metas: &mut MetaSeats,
     pipes: Vec<Vec<Pipe>>,
     lines: Vec<Vec<DriverLine>>,
-) -> Result<Vec<Start>, NoMemory> {
+    benches: &mut IntoIter<B>,
+) -> Result<Vec<Start<B>>, NoMemory> {
     let mut starts = Vec::new(alloc);
     let mut pipes = pipes.into_iter();
     let mut lines = lines.into_iter();
@@ -54,40 +55,26 @@ fn starts_of(
         let Some(lines) = lines.next() else {
             unreachable!()
         };
-        // The first seat is nobody's.
-        let meta = metas.seats.remove(1);
         starts.push(Start {
             driver,
             oracle,
-            meta,
+            // The first seat is nobody's.
+            meta: metas.seats.remove(1),
             pipes,
             lines,
+            bench: benches.next(),
         })?;
     }
     Ok(starts)
 }
 
-// Lends each driver its bench, the first one the first, as far as there are benches.
-fn lend<N: ClusterName, B: Drop>(benches: &mut IntoIter<B>, drivers: &mut Vec<DriverWork<N, B>>) {
-    for driver in drivers.iter_mut() {
-        driver.means.bench = benches.next();
+// The benches that no driver has.
+fn others<B: Drop>(alloc: Global, benches: IntoIter<B>) -> Result<Vec<B>, NoMemory> {
+    let mut others = Vec::new(alloc);
+    for bench in benches {
+        others.push(bench)?;
     }
-}
-
-// Takes the drivers' benches back, in their order. There is room for them.
-fn take_back<N: ClusterName, B: Drop>(home: &mut Vec<B>, drivers: &mut Vec<DriverWork<N, B>>) {
-    for driver in drivers.iter_mut() {
-        if let Some(bench) = driver.means.bench.take() {
-            home.push_reserved(bench);
-        }
-    }
-}
-
-// Puts the benches back that no driver had.
-fn put_back<B: Drop>(home: &mut Vec<B>, rest: IntoIter<B>) {
-    for bench in rest {
-        home.push_reserved(bench);
-    }
+    Ok(others)
 }
 
 // All workers answer their lines.
@@ -126,14 +113,15 @@ fn work<N, B, R, G>(
     });
 }
 
-// What all workers leave, unless memory is wanting.
+// What all workers leave, and all benches, in their order, unless memory is wanting.
 fn end<N: BoardName + ClusterName, B: Drop, R: Wait>(
     rt: &R,
     alloc: Global,
     board: Board,
     metas: MetaSeats,
+    others: Vec<B>,
     workers: Workers<N, B>,
-) -> Result<Left, NoMemory> {
+) -> Result<(Left, Vec<B>), NoMemory> {
     let Workers {
         post,
         clusters,
@@ -142,12 +130,14 @@ fn end<N: BoardName + ClusterName, B: Drop, R: Wait>(
         mut stores,
     } = workers;
     let mut metas = metas;
+    let mut others = others;
     let mut parts = driver_parts(rt, alloc, drivers, clusters, &mut stores)?;
     let calls = client_parts(alloc, clients)?;
     let stores = store_answers(alloc, stores)?;
     let post = post.close(rt, calls.slips)?;
     metas.seats.append(&mut parts.meta)?;
     let meta = metas.close(rt)?;
+    parts.benches.append(&mut others)?;
     let crew = Crew {
         board,
         seats: parts.oracle,
@@ -157,7 +147,7 @@ fn end<N: BoardName + ClusterName, B: Drop, R: Wait>(
     let Ok(ledger) = gather(crew) else {
         return Err(NoMemory);
     };
-    Ok(Left {
+    let left = Left {
         drivers: parts.answers,
         clients: calls.answers,
         stores,
@@ -165,7 +155,8 @@ fn end<N: BoardName + ClusterName, B: Drop, R: Wait>(
         meta,
         post,
         ledger,
-    })
+    };
+    Ok((left, parts.benches))
 }
 
 // The same over a board, metadata and streams whose names are given.
@@ -173,12 +164,12 @@ fn run_named<N, B, R, G>(
     rt: &R,
     alloc: Global,
     tasks: Tasks,
-    benches: &mut Vec<B>,
+    benches: Vec<B>,
     crew: Crew,
     metas: MetaSeats,
     pipes: Vec<Vec<Pipe>>,
     gate: &G,
-) -> Result<Left, NoMemory>
+) -> Result<(Left, Vec<B>), NoMemory>
 where
     N: BoardName + ClusterName + Send + Sync,
     B: Seated + Drop + Send,
@@ -197,31 +188,27 @@ where
         stores,
     } = tasks;
     let mut metas = metas;
-    let starts = starts_of(alloc, seats, &mut metas, pipes, drivers)?;
+    let mut benches = benches.into_iter();
+    let starts = starts_of(alloc, seats, &mut metas, pipes, drivers, &mut benches)?;
+    let others = others(alloc, benches)?;
     let mut workers = begin::<N, B>(alloc, &board, starts, passes, stores)?;
-    let mut home = Vec::with_capacity(alloc, benches.len())?;
-    let mut lent = mem::replace(benches, Vec::new(alloc)).into_iter();
-    lend(&mut lent, &mut workers.drivers);
     work(rt, alloc, &board, &clients, gate, &mut workers);
-    take_back(&mut home, &mut workers.drivers);
-    put_back(&mut home, lent);
-    *benches = home;
-    end(rt, alloc, board, metas, workers)
+    end(rt, alloc, board, metas, others, workers)
 }
 
 /// Each driver, client and store answers its own lines in their order, on a thread of its own where there
 /// are threads enough, and by its caller else, over a new cluster for each driver of a new crew and new
 /// metadata. A line is answered once the gate lets its actor, which then hears of it. A driver has its
 /// bench while it works, the first one the first, and hands it back; one that has none asks an empty one.
-/// Want of memory of any actor is told in place of all answers.
+/// Want of memory of any actor is told in place of all answers; then what was handed in is gone.
 pub fn run<B: Seated + Drop + Send, R: Threads + Wait + Sync, G: Gate + Sync>(
     rt: &R,
     alloc: Global,
     tasks: Tasks,
-    benches: &mut Vec<B>,
+    benches: Vec<B>,
     crew: Crew,
     gate: &G,
-) -> Result<Left, NoMemory> {
+) -> Result<(Left, Vec<B>), NoMemory> {
     let metas = MetaSeats::open(alloc)?;
     let pipes = open_pipes(alloc, crew.seats.len(), tasks.stores.as_slice())?;
     run_named::<Brand, B, R, G>(rt, alloc, tasks, benches, crew, metas, pipes, gate)
