@@ -11,7 +11,7 @@ use Rattle.pd_turn.specs.Turns.{IsFree, IsMadeBy, IsToldBy, TicketValue, TurnVal
 use Rattle.pd_types.specs.declared.oracle.Actor.TheVariants.{Driver, Store}
 use Rattle.pd_state.specs.declared.entry.Entry.{Entry}
 use Rattle.pd_shared.specs.Kept.{number_of, tale_of}
-use Rattle.pd_shared.specs.Shares.{AreSharesOf, IsInJournal, IsOpen, IsOwn, ShareValue, SharedValue, actor_of, entries_of, new_share, same_actor, share_by, shared_of, ticket_by}
+use Rattle.pd_shared.specs.Shares.{AreSharesOf, IsInJournal, IsOpen, IsOwn, ShareValue, SharedValue, actor_of, actors_of, entries_of, new_share, same_actor, share_by, shared_of, ticket_by}
 
 -- NUMBERS AND ACTORS
 pub number_actor : (driver number : ℕ) → number_of (actor_of driver number) ≡ number
@@ -55,6 +55,12 @@ contains_map : {X Y : Type 0} (f : X → Y) (xs : List X) (y : Y) (default : X) 
 contains_map f xs y default h =
     let lt : h.0 < length xs = omega (arith, h.1, length-map xs f) in
     (get_or xs h.0 default, Contains-get_or xs h.0 default lt, sym (read_map f xs h.0 y default lt) ∙ h.2)
+
+-- what stands at a place of a list stands, mapped, in the mapped list
+among_mapped : {X Y : Type 0} (f : X → Y) (xs : List X) (k : ℕ) (x : X) → get_elem? xs k ≡ some x → Contains (map f xs) (f x)
+among_mapped f [] k x at = absurd (some-ne-none x (sym at))
+among_mapped f (z ∷ zs) zero x at = (0, omega arith, ap f (some-injective z x at))
+among_mapped f (z ∷ zs) (suc k) x at = let rest = among_mapped f zs k x at in let within = rest.1 in (suc rest.0, omega (arith, within), rest.2)
 
 -- what is true of a number's items is true of each of them
 of_item : {I : Type 0} (P : I → Type 0) (n : ℕ) (tale : List (ℕ × I)) (k : ℕ) (i : I) → All P (items_of n tale) → get_elem? tale k ≡ some (n, i) → P i
@@ -124,6 +130,14 @@ module _ (cluster : SharedValue) (entries : List Entry) (shares : List ShareValu
       ∙ ap (λ m. items_of m (tale_of entries)) (ap number_of share.2 ∙ number_actor cluster.driver n) in
       let all = (All-contains IsOwn shares share.0 own share.1).entries in
       of_item (λ (x : Entry). x.actor ≡ share.0.actor) n (tale_of entries) k e (subst (All (λ (x : Entry). x.actor ≡ share.0.actor)) list all) at ∙ share.2
+
+  -- and that actor has a share
+  pub of_callers : All (λ (e : Entry). Contains (actors_of cluster) e.actor) entries
+  of_callers k d lt =
+      let e = get_or entries k d in
+      let n = number_of e.actor in
+      let among = made k (n, e) (at_tale entries k d lt) in
+      subst (Contains (actors_of cluster)) (sym (of_actor k d lt)) (among_mapped (actor_of cluster.driver) cluster.turn.numbers among.0 n among.1)
 
   pub in_journal : All (IsInJournal entries) shares
   in_journal k d lt =

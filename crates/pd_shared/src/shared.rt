@@ -1,5 +1,5 @@
 // A cluster that actors share, each by its share.
-ghost use Rattle.std.specs.Prelude.{◌≡◌, ◌++◌, ◌∷◌, [], ℕ, All, map, Option, None, false, IfOk, OnErr};
+ghost use Rattle.std.specs.Prelude.{◌≡◌, ◌++◌, ◌∷◌, [], ℕ, All, Contains, map, Option, None, false, IfOk, OnErr};
 ghost use Rattle.pd_turn.specs.Turns.{AreApart, new_ticket, ticket_value};
 ghost use Rattle.meta_store.specs.Seats.{new_seat};
 ghost use Rattle.pd_state.specs.declared.entry.Entry.{Entry};
@@ -124,13 +124,15 @@ impl<N: ClusterName> SharedCluster<N> {
 
     /// Ends the sharing and hands back the cluster, which is alive, its outlets and its seat: of all shares
     /// of this cluster, in any order. Each share's list is its actor's entries in the journal, in their
-    /// order. It waits for its turn. Where want of memory ended the cluster it answers that.
+    /// order, and no other actor has one there. It waits for its turn. Where want of memory ended the
+    /// cluster it answers that.
     pub fn close<R: Wait>(self, rt: &R, shares: Shares<N>) -> Result<Closed<N>, NoMemory>
         requires shares { AreSharesOf self shares.items }
         ensures driver { IfOk result (λ closed. closed.cluster.driver ≡ self.driver) }
         ensures alive { IfOk result (λ closed. closed.cluster.dead ≡ false) }
         ensures kept { IfOk result (λ closed. IsKept N.meta N.streams closed.cluster closed.seat closed.givers.items) }
         ensures lists { IfOk result (λ closed. All (IsInJournal closed.cluster.entries) shares.items) }
+        ensures callers { IfOk result (λ closed. All (λ (entry : Entry). Contains (actors_of self) entry.actor) closed.cluster.entries) }
     {
         let SharedCluster {
             driver,
