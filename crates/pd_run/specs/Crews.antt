@@ -70,7 +70,7 @@ pub record IsReady {N B : Type 0} (name : TableId) (names : List StreamName) (bo
   pub new : All (IsNewStore w.clusters.items) w.stores.items
 
 -- they are what such workers became by their work on their own lines, and on these of the clients
-pub record HaveWorked {N B : Type 0} (seats : B → Seats) (name : TableId) (names : List StreamName) (board : Board) (clients : List ClientLine) (first w : Workers N B) : Type 0 where
+pub record HaveWorked {N B : Type 0} (seats : B → Seats) (board : Board) (clients : List ClientLine) (first w : Workers N B) : Type 0 where
   pub post : w.post ≡ first.post
   pub clusters : w.clusters.items ≡ first.clusters.items
   pub drove : AllZip (DriverWorked seats board) first.drivers.items w.drivers.items

@@ -6,3 +6,4 @@ pub mod Runs
 pub mod Works
 pub mod Pipes
 pub mod Crews
+pub mod Ends

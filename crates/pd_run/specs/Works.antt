@@ -124,19 +124,20 @@ pub record PortDone {N : Type 0} (line : ℕ) (task : StoreTask) (says : StoreSa
   pub list : new.share.list ≡ old.share.list ++ own
   pub popped : new.taker.list ≡ old.taker.list ++ taken says
 
--- the entries that were made by the port to this driver's cluster, none where there is none
-abbrev pub made_at : {N : Type 0} → List (Port N) → ℕ → List Entry
-made_at [] driver = []
-made_at (p ∷ ports) zero = []
-made_at (p ∷ ports) (suc zero) = p.share.list
-made_at (p ∷ ports) (suc (suc d)) = made_at ports (suc d)
+-- the list that the port to this driver's cluster has, none where there is no port to it; the first port is the one to the first driver's
+abbrev pub listed_at : {N X : Type 0} → (Port N → List X) → List (Port N) → ℕ → List X
+listed_at list [] driver = []
+listed_at list (p ∷ ports) zero = []
+listed_at list (p ∷ ports) (suc zero) = list p
+listed_at list (p ∷ ports) (suc (suc d)) = listed_at list ports (suc d)
 
--- the steps that were popped by the port to this driver's cluster, none where there is none
+-- the entries that were made by the port to this driver's cluster
+abbrev pub made_at : {N : Type 0} → List (Port N) → ℕ → List Entry
+made_at {N} ports driver = listed_at (λ (p : Port N). p.share.list) ports driver
+
+-- the steps that were popped by the port to this driver's cluster
 abbrev pub popped_at : {N : Type 0} → List (Port N) → ℕ → List StepMsg
-popped_at [] driver = []
-popped_at (p ∷ ports) zero = []
-popped_at (p ∷ ports) (suc zero) = p.taker.list
-popped_at (p ∷ ports) (suc (suc d)) = popped_at ports (suc d)
+popped_at {N} ports driver = listed_at (λ (p : Port N). p.taker.list) ports driver
 
 -- which streams the ports pop
 abbrev pub streams_at : {N : Type 0} → List (Port N) → List TableId

@@ -4,6 +4,7 @@ ghost use Rattle.std.specs.Option.{is_some};
 ghost use Rattle.pd_state.specs.declared.entry.Entry.{Entry};
 ghost use Rattle.pd_state.specs.declared.part.Part.{Part};
 ghost use Rattle.pd_state.specs.BenchHeard.{OverBench};
+ghost use Rattle.pd_state.specs.declared.reply.Reply.{Reply};
 ghost use Rattle.pd_shared.specs.Kept.{IsEntryOf};
 ghost use Rattle.pd_shared.specs.Shares.{gains};
 ghost use Rattle.pd_run.specs.Answers.{asked_besides};
@@ -70,6 +71,25 @@ fn call<N: ClusterName, B: Seated, R: Wait>(
     }
 }
 
+// The same where nobody asks what the cluster replies.
+fn tell<N: ClusterName, B: Seated, R: Wait>(
+    rt: &R,
+    alloc: Global,
+    cluster: &SharedCluster<N>,
+    share: &mut Share<N>,
+    bench: &mut Option<B>,
+    number: u32,
+    request: Request,
+) -> Result<(), NoMemory>
+    requires share { share.old.cluster ≡ cluster.now }
+    ensures ok { OnOk result ((reply : Reply) × Made B.seats number request reply share.old share.new bench.old bench.new) }
+    ensures stays { (share.new.cluster ≡ share.old.cluster) × (share.new.actor ≡ share.old.actor) }
+    ensures bench { is_some bench.new ≡ is_some bench.old }
+{
+    call(rt, alloc, cluster, share, bench, number, request)?;
+    Ok(())
+}
+
 impl<N: ClusterName, B: Seated> Means<N, B> {
     // What the oracle answers; then the cluster hears where a term began or ended.
     fn by_oracle<R: Wait>(
@@ -87,7 +107,7 @@ impl<N: ClusterName, B: Seated> Means<N, B> {
     {
         let said = answer(&mut self.driver, board, ask)?;
         if let Some(request) = asked_besides(said) {
-            call(
+            tell(
                 rt,
                 alloc,
                 cluster,

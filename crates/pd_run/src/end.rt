@@ -1,6 +1,6 @@
 // What all workers leave.
 use crate::answer::{DriverAnswers, StoreAnswers};
-use crate::driving::DriverWork;
+use crate::driving::{DriverWork, Means};
 use crate::storing::{Port, StoreWork};
 use meta_store::MetaSeat;
 use pd_shared::{ClusterName, Givers, Share, SharedCluster, Shares};
@@ -87,21 +87,30 @@ impl<B: Drop> DriverParts<B> {
         cluster: SharedCluster<N>,
         stores: &mut Vec<StoreWork<N>>,
     ) -> Result<(), NoMemory> {
-        if work.failed {
+        let DriverWork {
+            number,
+            means,
+            answers,
+            failed,
+            ..
+        } = work;
+        if failed {
             return Err(NoMemory);
         }
-        let ends = ends_of(alloc, work.means.share, stores)?;
+        let Means {
+            driver,
+            share,
+            bench,
+        } = means;
+        let ends = ends_of(alloc, share, stores)?;
         let Closing { cluster, seat } = close(rt, cluster, ends)?;
         self.clusters.push(cluster)?;
         self.meta.push(seat)?;
-        self.oracle.push(work.means.driver.into_seat())?;
-        if let Some(bench) = work.means.bench {
+        self.oracle.push(driver.into_seat())?;
+        if let Some(bench) = bench {
             self.benches.push(bench)?;
         }
-        self.answers.push(DriverAnswers {
-            number: work.number,
-            answers: work.answers,
-        })?;
+        self.answers.push(DriverAnswers { number, answers })?;
         Ok(())
     }
 }

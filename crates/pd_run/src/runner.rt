@@ -1,4 +1,11 @@
 // A run: all drivers, clients and stores answer their lines, each on a thread of its own.
+ghost use Rattle.std.specs.Prelude.{◌≡◌, All, IfOk, OnOk, length, map};
+ghost use Rattle.std.specs.List.{AllZip};
+ghost use denote.Param.Send.{IsSync};
+ghost use Rattle.tso_board.specs.Boards.{setup_of};
+ghost use Rattle.tso_run.specs.Lines.{IsCall};
+ghost use Rattle.pd_run.specs.Crews.{HaveWorked, IsReady};
+
 use crate::answer::{DriverAnswers, StoreAnswers};
 use crate::begin::{Start, Workers, begin};
 use crate::driving::DriverWork;
@@ -18,7 +25,7 @@ use std::thread::{Threads, join_mut};
 use std::vec::IntoIter;
 use tso_board::{Board, Crew, DriverSeat, Ledger, gather};
 use tso_client::{BoardName, PostJournal};
-use tso_run::{ClientAnswers, ClientLine, client_parts, work_all};
+use tso_run::{ClientAnswers, ClientLine, Work, client_parts, work_all, work_both};
 
 /// What a run leaves: each actor's answers, the clusters with their journals, from the first driver's on,
 /// the journals of the metadata and of the post, and the windows and batches of the board.
@@ -77,19 +84,59 @@ fn others<B: Drop>(alloc: Global, benches: IntoIter<B>) -> Result<Vec<B>, NoMemo
     Ok(others)
 }
 
+// The workers of three kinds do their work, all at once, those of the first and the last beside one value.
+fn work_each<S, T, U, V, W, R>(
+    rt: &R,
+    shared: &S,
+    first: &mut [U],
+    last: &mut [W],
+    other: &T,
+    others: &mut [V],
+)
+where
+    S: Sync,
+    T: Sync,
+    U: Work<S> + Send,
+    V: Work<T> + Send,
+    W: Work<S> + Send,
+    R: Threads + Wait + Sync,
+    requires first { All (U.ready shared.now) first.old }
+    requires last { All (W.ready shared.now) last.old }
+    requires others { All (V.ready other.now) others.old }
+    ensures first { AllZip (U.done shared.now) first.old first.new }
+    ensures last { AllZip (W.done shared.now) last.old last.new }
+    ensures others { AllZip (V.done other.now) others.old others.new }
+{
+    join_mut(
+        rt,
+        &mut ||
+            requires { IsSync R.row × IsSync S.row × All (U.ready shared.now) first.now }
+            ensures { AllZip (U.done shared.entry.now) first.entry.now first.exit.now }
+        { work_all(rt, shared, first) },
+        &mut ||
+            requires { IsSync R.row × IsSync S.row × IsSync T.row × All (W.ready shared.now) last.now × All (V.ready other.now) others.now }
+            ensures { AllZip (W.done shared.entry.now) last.entry.now last.exit.now × AllZip (V.done other.entry.now) others.entry.now others.exit.now }
+        { work_both(rt, shared, last, other, others) },
+    );
+}
+
 // All workers answer their lines.
-fn work<N, B, R, G>(
+fn work<'x, N, B, R, G>(
     rt: &R,
     alloc: Global,
-    board: &Board,
-    clients: &[ClientLine],
-    gate: &G,
+    board: &'x Board,
+    clients: &'x [ClientLine],
+    gate: &'x G,
     workers: &mut Workers<N, B>,
-) where
+)
+where
     N: BoardName + ClusterName + Send + Sync,
     B: Seated + Drop + Send,
     R: Threads + Wait + Sync,
     G: Gate + Sync,
+    requires ready { IsReady N.board N.streams board.now workers.old }
+    requires calls { All (λ line. IsCall (setup_of board.now) line.ask) clients.now }
+    ensures worked { HaveWorked B.seats board.now clients.now workers.old workers.new }
 {
     let shared = Shared {
         alloc,
@@ -103,14 +150,14 @@ fn work<N, B, R, G>(
         gate,
         clients,
     };
-    let drivers = workers.drivers.as_mut_slice();
-    let callers = workers.clients.as_mut_slice();
-    let stores = workers.stores.as_mut_slice();
-    join_mut(rt, &mut || { work_all(rt, &shared, drivers) }, &mut || {
-        join_mut(rt, &mut || { work_all(rt, &calling, callers) }, &mut || {
-            work_all(rt, &shared, stores)
-        })
-    });
+    work_each(
+        rt,
+        &shared,
+        workers.drivers.as_mut_slice(),
+        workers.stores.as_mut_slice(),
+        &calling,
+        workers.clients.as_mut_slice(),
+    );
 }
 
 // What all workers leave, and all benches, in their order, unless memory is wanting.

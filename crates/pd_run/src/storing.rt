@@ -73,11 +73,12 @@ impl<N: ClusterName> StoreWork<N> {
         &mut self,
         rt: &R,
         shared: &Shared<'_, N, G>,
+        clusters: &[SharedCluster<N>],
         line: StoreLine,
     ) -> Result<(), NoMemory>
-        requires ports { ArePorts self.old.store shared.now.clusters.now self.old.ports.items }
-        requires line { GoesTo (length shared.now.clusters.now) line }
-        ensures ports { ArePorts self.old.store shared.now.clusters.now self.new.ports.items }
+        requires ports { ArePorts self.old.store clusters.now self.old.ports.items }
+        requires line { GoesTo (length clusters.now) line }
+        ensures ports { ArePorts self.old.store clusters.now self.new.ports.items }
         ensures store { self.new.store ≡ self.old.store }
         ensures failed { self.new.failed ≡ self.old.failed }
         ensures ok { OnOk result (StoreLineAnswered line self.old self.new) }
@@ -91,7 +92,7 @@ impl<N: ClusterName> StoreWork<N> {
         self.answers.reserve(1)?;
         pass(shared.gate, actor, number);
         let place = (driver - 1) as usize;
-        let cluster = &shared.clusters[place];
+        let cluster = &clusters[place];
         let port = &mut self.ports[place];
         let says = port.answer(rt, shared.alloc, cluster, number, task)?;
         self.answers.push_reserved(StoreAnswer {
@@ -108,17 +109,18 @@ impl<N: ClusterName> StoreWork<N> {
         &mut self,
         rt: &R,
         shared: &Shared<'_, N, G>,
+        clusters: &[SharedCluster<N>],
         lines: Vec<StoreLine>,
     )
-        requires ports { ArePorts self.old.store shared.now.clusters.now self.old.ports.items }
-        requires lines { All (GoesTo (length shared.now.clusters.now)) lines.items }
+        requires ports { ArePorts self.old.store clusters.now self.old.ports.items }
+        requires lines { All (GoesTo (length clusters.now)) lines.items }
         requires first { self.old.answers.items ≡ [] }
         requires none { HasDoneNothing self.old.ports.items }
         requires fine { self.old.failed ≡ false }
-        ensures worked { StoreLinesAnswered shared.now.clusters.now lines.items self.old self.new }
+        ensures worked { StoreLinesAnswered clusters.now lines.items self.old self.new }
     {
         for line in lines {
-            let Ok(()) = self.answer_line(rt, shared, line) else {
+            let Ok(()) = self.answer_line(rt, shared, clusters, line) else {
                 self.failed = true;
                 return;
             };
@@ -131,7 +133,7 @@ impl<N: ClusterName> StoreWork<N> {
         ensures worked { StoreWorked shared.now.clusters.now self.old self.new }
     {
         let lines = mem::replace(&mut self.lines, Vec::new(shared.alloc));
-        self.answer_all(rt, shared, lines);
+        self.answer_all(rt, shared, shared.clusters, lines);
     }
 }
 
