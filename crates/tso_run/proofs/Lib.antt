@@ -4,6 +4,4 @@ pub mod Rows
 pub mod Starting
 pub mod Moving
 pub mod Ending
-pub mod Leaving
-pub mod Lawfully
 mod Naming

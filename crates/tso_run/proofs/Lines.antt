@@ -1,20 +1,14 @@
--- One line more, of a list that an actor walks.
+-- One line more, of a list that a client walks.
 use Rattle.std.proofs.Common.{◌≡◌, ◌≢◌, ℕ, ◌+◌, ◌<◌, Bool, true, false, List, [], ◌∷◌, ◌++◌, cond, length, take, get_or, sym, refl, ap, ◌∙◌, subst}
 use Rattle.std.proofs.lemmas.Bool.{eq-eqb, ne_eqb}
 use Rattle.std.proofs.lemmas.List.{take_more}
 use Rattle.std.proofs.lemmas.List.Elements.{filter-append}
 use Rattle.std.specs.Prelude.{filter, map}
-use Rattle.tso_model.specs.declared.view.View.{View}
-use Rattle.tso_driver.specs.declared.said.DriverSaid.{DriverSaid}
-use Rattle.tso_driver.specs.Driving.{DriverDid}
 use Rattle.tso_outcome.specs.declared.said.ClientAnswer.{ClientAnswer}
 use Rattle.tso_outcome.specs.declared.said.ClientSaid.{ClientSaid}
-use Rattle.tso_outcome.specs.declared.said.DriverAnswer.{DriverAnswer}
 use Rattle.tso_outcome.specs.Clients.{Client, ClientDid, Drew}
-use Rattle.tso_outcome.specs.Drives.{Drove}
 use Rattle.tso_run.specs.declared.line.ClientLine.{ClientLine}
-use Rattle.tso_run.specs.declared.line.DriverLine.{DriverLine}
-use Rattle.tso_run.specs.Lines.{client_ask, client_line, driver_ask, driver_line, lines_of_client, lines_of_driver}
+use Rattle.tso_run.specs.Lines.{client_ask, client_line, lines_of_client}
 
 module _ {A : Type 0} (own : A → Bool) where
   append-nil : (xs : List A) → xs ++ [] ≡ xs
@@ -31,27 +25,6 @@ map-append : {A B : Type 0} (f : A → B) (xs ys : List A) → map f (xs ++ ys) 
 map-append f [] ys = refl
 map-append f (x ∷ xs) ys = λ i. f x ∷ map-append f xs ys i
 
--- DRIVERS
-drove_more : (v : View) (answers : List DriverAnswer) (u : View) (a : DriverAnswer) (w : View) → Drove v answers u → DriverDid a.said u w → Drove v (answers ++ a ∷ []) w
-drove_more v [] u a w h did = (w, subst (λ x. DriverDid a.said x w) (sym h) did, refl)
-drove_more v (b ∷ rest) u a w h did = (h.0, h.1, drove_more h.0 rest u a w h.2 did)
-
-pub drove_line : (v u w : View) (old new : List DriverAnswer) (number : ℕ) (said : DriverSaid) → new ≡ old ++ record { line = number; said = said } ∷ [] → Drove v old u → DriverDid said u w → Drove v new w
-drove_line v u w old new number said e drove did = subst (λ l. Drove v l w) (sym e) (drove_more v old u (record { line = number; said = said }) w drove did)
-
-pub driven_line : (n : ℕ) (lines : List DriverLine) (i : ℕ) (d : DriverLine) (old new : List DriverAnswer) (said : DriverSaid) → i < length lines → (get_or lines i d).driver ≡ n
-    → new ≡ old ++ record { line = (get_or lines i d).number; said = said } ∷ [] → map (driver_line n) old ≡ lines_of_driver n (take i lines) → driver_ask said ≡ (get_or lines i d).ask
-    → map (driver_line n) new ≡ lines_of_driver n (take (i + 1) lines)
-driven_line n lines i d old new said lt mine e before asked =
-    let own : n ≡ (get_or lines i d).driver = sym mine in
-    ap (map (driver_line n)) e ∙ map-append (driver_line n) old (record { line = (get_or lines i d).number; said = said } ∷ [])
-    ∙ (λ j. before j ++ record { number = (get_or lines i d).number; driver = own j; ask = asked j } ∷ [])
-    ∙ sym (own_more (λ (l : DriverLine). Rattle.std.specs.Prelude.nat_eq l.driver n) lines i d lt (eq-eqb (get_or lines i d).driver n mine))
-
-pub not_driven : (n : ℕ) (lines : List DriverLine) (i : ℕ) (d : DriverLine) → i < length lines → (get_or lines i d).driver ≢ n → lines_of_driver n (take (i + 1) lines) ≡ lines_of_driver n (take i lines)
-not_driven n lines i d lt other = other_more (λ (l : DriverLine). Rattle.std.specs.Prelude.nat_eq l.driver n) lines i d lt (ne_eqb (get_or lines i d).driver n other)
-
--- CLIENTS
 drew_more : (v : Client) (answers : List ClientAnswer) (u : Client) (a : ClientAnswer) (w : Client) → Drew v answers u → ClientDid a.line a.said u w → Drew v (answers ++ a ∷ []) w
 drew_more v [] u a w h did = (w, subst (λ x. ClientDid a.line a.said x w) (sym h) did, refl)
 drew_more v (b ∷ rest) u a w h did = (h.0, h.1, drew_more h.0 rest u a w h.2 did)

@@ -1,4 +1,4 @@
--- The workers of a run, made one by one.
+-- The workers of clients, made one by one.
 use Rattle.std.proofs.Common.{◌≡◌, ℕ, ◌+◌, ◌-◌, ◌≤◌, List, [], ◌∷◌, ◌++◌, false, sym, refl, ap, ◌∙◌, subst, arith}
 use Rattle.std.specs.Prelude.{map, All}
 use Rattle.std.proofs.lemmas.List.Elements.{All-push, All-head, All-tail, All-nil}
@@ -8,57 +8,13 @@ use Rattle.tso_model.specs.declared.view.Setup.{Setup}
 use Rattle.tso_model.specs.Moves.{numbers_from}
 use Rattle.tso_board.specs.declared.board.Board.{Board}
 use Rattle.tso_board.specs.declared.pass.Pass.{Pass}
-use Rattle.tso_board.specs.declared.seat.DriverSeat.{DriverSeat}
-use Rattle.tso_board.specs.Actors.{client_view, driver_view}
+use Rattle.tso_board.specs.Actors.{client_view}
 use Rattle.tso_board.specs.Boards.{board_id, setup_of}
 use Rattle.tso_board.specs.Passes.{IsPassOf, pass_view}
-use Rattle.tso_board.specs.Seats.{IsSeatOf, seat_view}
 use Rattle.tso_client.specs.Slips.{SlipValue, clients_of, new_slip}
-use Rattle.tso_driver.specs.Drivers.{seat_of}
 use Rattle.tso_run.specs.declared.caller.ClientWork.{ClientWork}
-use Rattle.tso_run.specs.declared.driving.DriverWork.{DriverWork}
-use Rattle.tso_run.specs.Works.{IsNewClient, IsNewDriver}
+use Rattle.tso_run.specs.Works.{IsNewClient}
 use Rattle.tso_run.proofs.Rows.{next_is, numbered}
-
--- this many drivers have workers, and these seats are left
-pub record DriversLeft (board : Board) (number : ℕ) (rest : List DriverSeat) (works : List DriverWork) : Type 0 where
-  pub low : number ≤ (setup_of board).drivers
-  pub boards : All (λ s. IsSeatOf s board) rest
-  pub views : map seat_view rest ≡ map (driver_view (setup_of board)) (numbers_from (number + 1) ((setup_of board).drivers - number))
-  pub new : All (IsNewDriver board) works
-  pub numbers : map (λ w. w.number) works ≡ numbers_from 1 number
-
-pub drivers_begin : (board : Board) (seats : List DriverSeat) → All (λ s. IsSeatOf s board) seats → map seat_view seats ≡ map (driver_view (setup_of board)) (numbers_from 1 (setup_of board).drivers) → DriversLeft board 0 seats []
-drivers_begin board seats boards views = record {
-  low = omega arith;
-  boards = boards;
-  views = views ∙ ap (λ (m : ℕ). map (driver_view (setup_of board)) (numbers_from 1 m)) (let e : (setup_of board).drivers ≡ (setup_of board).drivers - 0 = omega arith in e);
-  new = All-nil (IsNewDriver board);
-  numbers = refl;
-}
-
-pub drivers_next : (board : Board) (number : ℕ) (seat : DriverSeat) (all rest : List DriverSeat) (works more : List DriverWork) (w : DriverWork) → DriversLeft board number all works → all ≡ seat ∷ rest
-    → w.number ≡ number + 1 → seat_of w.driver ≡ seat → w.answers.items ≡ [] → w.failed ≡ false → more ≡ works ++ w ∷ [] → DriversLeft board (number + 1) rest more
-drivers_next board number seat all rest works more w l is n same empty fine e =
-    let k : Setup = setup_of board in
-    let views : map seat_view (seat ∷ rest) ≡ map (driver_view k) (numbers_from (number + 1) (k.drivers - number)) = ap (map seat_view) (sym is) ∙ l.views in
-    let boards : All (λ s. IsSeatOf s board) (seat ∷ rest) = subst (All (λ s. IsSeatOf s board)) is l.boards in
-    let one = next_is seat_view (driver_view k) (number + 1) (k.drivers - number) seat rest views in
-    record {
-      low = omega (arith, l.low, one.0);
-      boards = All-tail (λ s. IsSeatOf s board) seat rest boards;
-      views = one.2 ∙ ap (λ (m : ℕ). map (driver_view k) (numbers_from (number + 1 + 1) m)) (let s : k.drivers - number - 1 ≡ k.drivers - (number + 1) = omega arith in s);
-      new = subst (All (IsNewDriver board)) (sym e) (All-push (IsNewDriver board) works w l.new (record {
-        board_is = subst (λ s. IsSeatOf s board) (sym same) (All-head (λ s. IsSeatOf s board) seat rest boards);
-        view = ap seat_view same ∙ one.1 ∙ ap (driver_view k) (sym n);
-        answers = empty;
-        fine = fine;
-      }));
-      numbers = numbered (λ (x : DriverWork). x.number) works more w number e l.numbers n;
-    }
-
-pub drivers_end : (board : Board) (number : ℕ) (works : List DriverWork) (rest : List DriverSeat) → (setup_of board).drivers - number ≡ 0 → DriversLeft board number rest works → map (λ (w : DriverWork). w.number) works ≡ numbers_from 1 (setup_of board).drivers
-drivers_end board number works rest none l = l.numbers ∙ ap (numbers_from 1) (let e : number ≡ (setup_of board).drivers = omega (arith, l.low, none) in e)
 
 -- this many clients have workers, and these passes and slips are left
 pub record ClientsLeft {N : Type 0} (name : TableId) (board : Board) (post : TurnValue) (number : ℕ) (rest : List Pass) (slips : List SlipValue) (works : List (ClientWork N)) : Type 0 where

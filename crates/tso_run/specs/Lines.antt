@@ -1,4 +1,4 @@
--- Which lines an actor answers.
+-- What a driver and a client are asked on a line, and which lines a client answers.
 use Rattle.std.specs.Prelude.{ℕ, ◌<◌, ◌≤◌, ◌==◌, List, filter}
 use Rattle.tso_model.specs.declared.view.Setup.{Setup}
 use Rattle.tso_driver.specs.declared.said.DriverSaid.{DriverSaid}
@@ -6,23 +6,17 @@ use Rattle.tso_driver.specs.declared.said.DriverSaid.TheVariants.{Led, Ticked, R
 use Rattle.tso_outcome.specs.declared.said.ClientAnswer.{ClientAnswer}
 use Rattle.tso_outcome.specs.declared.said.ClientSaid.{ClientSaid}
 use Rattle.tso_outcome.specs.declared.said.ClientSaid.TheVariants.{Took, Told, Heard}
-use Rattle.tso_outcome.specs.declared.said.DriverAnswer.{DriverAnswer}
 use Rattle.tso_run.specs.declared.line.ClientAsk.{ClientAsk}
 use Rattle.tso_run.specs.declared.line.ClientAsk.TheVariants.{Take, Tell, Hear}
 use Rattle.tso_run.specs.declared.line.ClientLine.{ClientLine}
 use Rattle.tso_run.specs.declared.line.DriverAsk.{DriverAsk}
 use Rattle.tso_run.specs.declared.line.DriverAsk.TheVariants.{Lead, Tick, Resign}
-use Rattle.tso_run.specs.declared.line.DriverLine.{DriverLine}
 
 -- what was asked where a driver answered this
 abbrev pub driver_ask : DriverSaid → DriverAsk
 driver_ask (Led now reply) = Lead now
 driver_ask (Ticked now reply) = Tick now
 driver_ask (Resigned held) = Resign
-
--- the line that an answer of the driver d answers
-abbrev pub driver_line : ℕ → DriverAnswer → DriverLine
-driver_line d a = record { number = a.line; driver = d; ask = driver_ask a.said }
 
 -- what was asked where a client answered this
 abbrev pub client_ask : ClientSaid → ClientAsk
@@ -33,10 +27,6 @@ client_ask (Heard heard) = Hear
 -- the line that an answer of the client c answers
 abbrev pub client_line : ℕ → ClientAnswer → ClientLine
 client_line c a = record { number = a.line; client = c; ask = client_ask a.said }
-
--- the lines of the driver d, in their order
-abbrev pub lines_of_driver : ℕ → List DriverLine → List DriverLine
-lines_of_driver d lines = filter (λ (l : DriverLine). l.driver == d) lines
 
 -- the lines of the client c, in their order
 abbrev pub lines_of_client : ℕ → List ClientLine → List ClientLine

@@ -1,50 +1,19 @@
--- What a worker begins with, and what it has done.
+-- What a client's worker begins with, and what it has done.
 use Rattle.std.specs.Prelude.{◌≡◌, ◌++◌, ◌∷◌, List, [], false, map}
 use Rattle.atomic_table.specs.Seated.{TableId}
 use Rattle.pd_turn.specs.Turns.{TurnValue}
 use Rattle.tso_model.specs.Steps.{AtRest}
 use Rattle.tso_board.specs.declared.board.Board.{Board}
 use Rattle.tso_board.specs.declared.pass.Pass.{Pass}
-use Rattle.tso_board.specs.Actors.{client_view, driver_view}
+use Rattle.tso_board.specs.Actors.{client_view}
 use Rattle.tso_board.specs.Boards.{board_id, setup_of}
 use Rattle.tso_board.specs.Passes.{IsPassOf, pass_view}
-use Rattle.tso_driver.specs.Drivers.{IsDriverOf, view_of}
-use Rattle.tso_driver.specs.Driving.{DriverDid}
-use Rattle.tso_driver.specs.declared.said.DriverSaid.{DriverSaid}
 use Rattle.tso_client.specs.Slips.{SlipValue, clients_of, new_slip}
 use Rattle.tso_outcome.specs.declared.said.ClientSaid.{ClientSaid}
 use Rattle.tso_outcome.specs.Clients.{Client, ClientDid, Drew}
-use Rattle.tso_outcome.specs.Drives.{Drove}
 use Rattle.tso_run.specs.declared.line.ClientLine.{ClientLine}
-use Rattle.tso_run.specs.declared.line.DriverLine.{DriverLine}
 use Rattle.tso_run.specs.declared.caller.ClientWork.{ClientWork}
-use Rattle.tso_run.specs.declared.driving.DriverWork.{DriverWork}
-use Rattle.tso_run.specs.Lines.{client_ask, client_line, driver_ask, driver_line, lines_of_client, lines_of_driver}
-
--- DRIVERS
-
--- a driver of this board that did nothing yet
-pub record IsNewDriver (board : Board) (w : DriverWork) : Type 0 where
-  pub board_is : IsDriverOf w.driver board
-  pub view : view_of w.driver ≡ driver_view (setup_of board) w.number
-  pub answers : w.answers.items ≡ []
-  pub fine : w.failed ≡ false
-
--- it answered this line, after those before
-pub record DriverAnswered (line : DriverLine) (v w : DriverWork) : Type 0 where
-  pub said : DriverSaid
-  pub asked : driver_ask said ≡ line.ask
-  pub did : DriverDid said (view_of v.driver) (view_of w.driver)
-  pub answers : w.answers.items ≡ v.answers.items ++ record { line = line.number; said = said } ∷ []
-
--- It is the same driver of the same board; where there was memory, it made the calls of its own lines, in their order, and its answers are to these
-pub record DriverWorked (board : Board) (lines : List DriverLine) (v w : DriverWork) : Type 0 where
-  pub number : w.number ≡ v.number
-  pub board_is : IsDriverOf w.driver board
-  pub drove : w.failed ≡ false → Drove (view_of v.driver) w.answers.items (view_of w.driver)
-  pub asked : w.failed ≡ false → map (driver_line v.number) w.answers.items ≡ lines_of_driver v.number lines
-
--- CLIENTS
+use Rattle.tso_run.specs.Lines.{client_ask, client_line, lines_of_client}
 
 -- what a client's pass knows, with its entries in the journal of the post
 abbrev pub client_of : Pass → SlipValue → Client

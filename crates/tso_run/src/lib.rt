@@ -9,6 +9,8 @@ mod laws;
 mod line;
 mod shared;
 mod start;
+#[cfg(test)]
+mod tests;
 
 pub use caller::ClientWork;
 pub use driving::answer;

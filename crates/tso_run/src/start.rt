@@ -1,12 +1,11 @@
-// The workers of a run before they begin.
+// The workers of clients before they begin.
 ghost use Rattle.std.specs.Prelude.{◌≡◌, ◌≤◌, All, IfOk, map};
 ghost use Rattle.tso_model.specs.Moves.{numbers_from};
-ghost use Rattle.tso_board.specs.Actors.{client_view, driver_view};
+ghost use Rattle.tso_board.specs.Actors.{client_view};
 ghost use Rattle.tso_board.specs.Boards.{board_id, setup_of};
 ghost use Rattle.tso_board.specs.Passes.{IsPassOf, pass_view};
-ghost use Rattle.tso_board.specs.Seats.{IsSeatOf, seat_view};
 ghost use Rattle.tso_client.specs.Slips.{clients_of, new_slip};
-ghost use Rattle.tso_run.specs.Works.{IsNewClient, IsNewDriver};
+ghost use Rattle.tso_run.specs.Works.{IsNewClient};
 
 use crate::caller::ClientWork;
 use pd_types::NoMemory;

@@ -7,7 +7,7 @@ use Rattle.tso_client.specs.Slips.{new_slip}
 use Rattle.tso_run.proofs.Rows.{row_length, rows_length}
 use Rattle.tso_run.specs.declared.caller.ClientWork.{ClientWork}
 use Rattle.tso_run.proofs.Starting.{ClientsLeft, clients_begin, clients_end, clients_next}
-use Rattle.tso_run.proofs.start.clients.Goals as goal
+use Rattle.tso_run.proofs.start.client_works.Goals as goal
 
 pub loop-pass-init : goal.loop-pass-init
 loop-pass-init g c =

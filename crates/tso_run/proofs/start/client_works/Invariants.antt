@@ -1,7 +1,7 @@
 use Rattle.std.proofs.Common.{◌≡◌, ◌-◌}
 use Rattle.tso_board.specs.Boards.{setup_of}
 use Rattle.tso_run.proofs.Starting.{ClientsLeft}
-use Rattle.tso_run.proofs.start.clients.Given as goal
+use Rattle.tso_run.proofs.start.client_works.Given as goal
 
 abbrev pub invariant-loop-pass : goal.invariant-loop-pass
 invariant-loop-pass g l =
