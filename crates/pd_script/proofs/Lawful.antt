@@ -10,7 +10,7 @@ use Rattle.pd_script.specs.Grammar.{AtFault, by_request_verb, with_request, and_
 use Rattle.pd_script.specs.Formed.{IsAsked}
 use Rattle.pd_script.specs.Lawful.{AreLawful, IsFormed, IsInRange, IsLawful, IsLawfulScript, standing_of}
 use Rattle.pd_script.specs.Places.{most, read_place}
-use Rattle.pd_script.specs.Says.{Says, says}
+use Rattle.pd_script.specs.Says.{Says}
 use Rattle.pd_script.specs.Scripts.{act_of, broken_by, client_of, driver_of, greatest, greatest_in, if_client, if_driver, line_of, script_by, script_of, unless_broken}
 use Rattle.pd_script.specs.Table.{is_misplaced, row, verb_of}
 use Rattle.pd_script.specs.Words.{RawLine, behind_word, raw_lines, words}

@@ -1,6 +1,6 @@
 -- The lines of a script: the first word, what stands behind it, and where the line may stand. A line's actor is the driver,
 -- the client or the store that it names first (own choice).
-use Rattle.std.specs.Prelude.{ℕ, List, codes, Option, None, Bool, true, false}
+use Rattle.std.specs.Prelude.{ℕ, List, codes, Option, Bool, true, false}
 use Rattle.std.specs.List.{find}
 use Rattle.std.specs.Str.{bytes_eq}
 use Rattle.pd_script.specs.declared.place.Place.TheVariants.{Driver, Client, Moment, Count, Saved, Term, Id}
@@ -10,7 +10,6 @@ use Rattle.pd_script.specs.declared.verb.Places.{Places}
 use Rattle.pd_script.specs.declared.verb.Places.TheVariants.{One, Two, Three}
 use Rattle.pd_script.specs.declared.verb.Standing.{Standing}
 use Rattle.pd_script.specs.declared.verb.Standing.TheVariants.{Anywhere, Opening, SingleStep}
-use Rattle.pd_script.specs.declared.request_verb.RequestVerb.{RequestVerb}
 use Rattle.pd_script.specs.declared.verb.TheConstants.{VERBS}
 use Rattle.pd_script.specs.declared.verb.Verb.{Verb}
 use Rattle.pd_script.specs.declared.verb.Verb.TheVariants.{Cell, Lead, Tick, Resign, Take, Tell, Hear, Read, Campaign, Save, Raise, Publish, Probe, Look, Arm, Draw, Pop}

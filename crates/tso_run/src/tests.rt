@@ -9,8 +9,8 @@ ghost use Rattle.tso_run.specs.Lines.{IsCall};
 ghost use Rattle.tso_run.specs.Works.{IsNewClient};
 
 use crate::{
-    ClientAnswers, ClientAsk, ClientLine, ClientWork, DriverAsk, Shared, Work, answer, client_parts,
-    client_works, pass, work_all, work_both,
+    ClientAnswers, ClientAsk, ClientLine, ClientWork, DriverAsk, Shared, Work, answer,
+    client_parts, client_works, pass, work_all, work_both,
 };
 use pd_types::{Actor, Batch, CellWord, Gate, NoMemory, Seen};
 use std::alloc::Global;
@@ -286,11 +286,9 @@ struct Copies<T> {
 }
 
 impl Work<u64> for Copies<u64> {
-    ghost use Rattle.std.specs.Prelude.{Unit};
-
     ghost ready = { λ shared w. Unit {0} };
 
-    ghost done = { λ shared v w. w.copied ≡ shared.now };
+    ghost done = { λ shared v w. w.copied ≡ shared };
 
     fn work<R: Threads + Wait + Sync>(&mut self, _rt: &R, shared: &u64) {
         self.copied = *shared;
@@ -298,11 +296,9 @@ impl Work<u64> for Copies<u64> {
 }
 
 impl Work<bool> for Copies<bool> {
-    ghost use Rattle.std.specs.Prelude.{Unit};
-
     ghost ready = { λ shared w. Unit {0} };
 
-    ghost done = { λ shared v w. w.copied ≡ shared.now };
+    ghost done = { λ shared v w. w.copied ≡ shared };
 
     fn work<R: Threads + Wait + Sync>(&mut self, _rt: &R, shared: &bool) {
         self.copied = *shared;
@@ -342,6 +338,10 @@ fn gate_is_asked_until_it_lets_the_line(rt: HostRuntime) {
             asked: AtomicU64::new(0),
         };
         pass(&gate, Actor::Client(1), 1);
-        assert_eq!(rt; gate.asked.load(Ordering::SeqCst), asks, "held {times} times");
+        assert_eq!(rt;
+            gate.asked.load(Ordering::SeqCst),
+            asks,
+            "held {times} times"
+        );
     }
 }

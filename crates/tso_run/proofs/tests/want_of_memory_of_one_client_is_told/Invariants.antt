@@ -3,4 +3,4 @@ use Rattle.tso_run.proofs.tests.want_of_memory_of_one_client_is_told.Given as go
 
 -- the board that was just opened
 abbrev pub ghosts-without_memory : goal.ghosts-without_memory
-ghosts-without_memory g a = record { board = board_id a.board }
+ghosts-without_memory g a = record { board = board_id a.board.now }
