@@ -39,13 +39,6 @@ abbrev pub AreStarts : {B : Type 0} → Board → TurnValue → List StreamName 
 AreStarts board meta streams stores before [] = Unit {0}
 AreStarts board meta streams stores before (start ∷ starts) = IsStart board meta streams stores before start × AreStarts board meta streams stores (before + 1) starts
 
--- the clusters of the first drivers, each with a share for its driver and one for each of these stores; and these drivers, who did nothing yet
-pub record AreLed {N B : Type 0} (board : Board) (stores : List ℕ) (clusters : List SharedValue) (drivers : List (DriverWork N B)) : Type 0 where
-  pub numbers : map (λ (c : SharedValue). c.driver) clusters ≡ numbers_from 1 (length clusters)
-  pub shares : All (λ (c : SharedValue). c.turn.numbers ≡ 0 ∷ stores) clusters
-  pub driver_numbers : map (λ (w : DriverWork N B). w.number) drivers ≡ numbers_from 1 (length clusters)
-  pub new : All (IsNewDriver board clusters) drivers
-
 -- these streams to a store are those of the drivers' clusters, from this driver's on
 abbrev pub AreNamed : List StreamName → ℕ → ℕ → List TableId → Type 0
 AreNamed names driver store [] = Unit {0}
@@ -59,14 +52,26 @@ pub record IsLedStore {N : Type 0} (names : List StreamName) (clusters : List Sh
   pub answers : w.answers.items ≡ []
   pub fine : w.failed ≡ false
 
+-- these stores, each with a port to each of these clusters
+pub record AreLedStores {N : Type 0} (names : List StreamName) (stores : List ℕ) (clusters : List SharedValue) (works : List (StoreWork N)) : Type 0 where
+  pub ids : map (λ (w : StoreWork N). w.store) works ≡ stores
+  pub each : All (IsLedStore names clusters) works
+
+-- the clusters of the first drivers, each with a share for its driver and one for each of these stores; these drivers, who did nothing yet; and the stores
+pub record AreLed {N B : Type 0} (board : Board) (names : List StreamName) (stores : List ℕ) (clusters : List SharedValue) (drivers : List (DriverWork N B)) (works : List (StoreWork N)) : Type 0 where
+  pub numbers : map (λ (c : SharedValue). c.driver) clusters ≡ numbers_from 1 (length clusters)
+  pub shares : All (λ (c : SharedValue). c.turn.numbers ≡ 0 ∷ stores) clusters
+  pub driver_numbers : map (λ (w : DriverWork N B). w.number) drivers ≡ numbers_from 1 (length clusters)
+  pub new : All (IsNewDriver board clusters) drivers
+  pub led_stores : AreLedStores names stores clusters works
+
 -- a worker for each driver and each client of this board, by rising numbers, a cluster for each driver, and workers of stores, none of whom did anything; the board
 -- and the streams have these names
 pub record IsReady {N B : Type 0} (name : TableId) (names : List StreamName) (board : Board) (w : Workers N B) : Type 0 where
   pub count : length w.clusters.items ≡ (setup_of board).drivers
-  pub led : AreLed board (map (λ (s : StoreWork N). s.store) w.stores.items) w.clusters.items w.drivers.items
+  pub led : AreLed board names (map (λ (s : StoreWork N). s.store) w.stores.items) w.clusters.items w.drivers.items w.stores.items
   pub clients : All (IsNewClient name board w.post) w.clients.items
   pub client_numbers : map (λ (c : ClientWork N). c.number) w.clients.items ≡ numbers_from 1 (setup_of board).clients
-  pub stores : All (IsLedStore names w.clusters.items) w.stores.items
   pub new : All (IsNewStore w.clusters.items) w.stores.items
 
 -- they are what such workers became by their work on their own lines, and on these of the clients

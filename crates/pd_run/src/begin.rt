@@ -1,5 +1,5 @@
 // All workers before they begin.
-ghost use Rattle.std.specs.Prelude.{◌≡◌, ◌+◌, ◌++◌, ◌∷◌, [], All, IfOk, OnOk, length, map};
+ghost use Rattle.std.specs.Prelude.{◌≡◌, ◌+◌, ◌++◌, ◌∷◌, [], All, IfOk, length, map};
 ghost use Rattle.std.specs.List.{AllZip};
 ghost use Rattle.pd_turn.specs.Turns.{AreApart};
 ghost use Rattle.meta_store.specs.Seats.{new_seat};
@@ -10,7 +10,7 @@ ghost use Rattle.tso_model.specs.Sound.{IsSetup};
 ghost use Rattle.tso_board.specs.Actors.{client_view};
 ghost use Rattle.tso_board.specs.Boards.{board_id, setup_of};
 ghost use Rattle.tso_board.specs.Passes.{IsPassOf, pass_view};
-ghost use Rattle.pd_run.specs.Crews.{AreLed, AreStarts, IsLedStore, IsReady, IsStart};
+ghost use Rattle.pd_run.specs.Crews.{AreLed, AreLedStores, AreStarts, IsReady, IsStart};
 ghost use Rattle.pd_run.specs.Tasks.{GoesTo};
 ghost use Rattle.pd_run.specs.Pipes.{ArePipesTo, BeginsStore, GotPorts, IsNewPipe, OpensPort, end_by, outlet_by, pipe_name};
 
@@ -117,22 +117,26 @@ fn open_cluster<N: ClusterName>(
     })
 }
 
-// Gives each store its port to one more driver's cluster.
+// The stores, each with its port to one more driver's cluster.
 fn hand_out<N: ClusterName>(
-    stores: &mut Vec<StoreWork<N>>,
+    alloc: Global,
+    stores: Vec<StoreWork<N>>,
     ports: Vec<Port<N>>,
-) -> Result<(), NoMemory>
-    requires same { length ports.items ≡ length stores.old.items }
-    ensures got { OnOk result (GotPorts ports.items stores.old.items stores.new.items) }
+) -> Result<Vec<StoreWork<N>>, NoMemory>
+    requires same { length ports.items ≡ length stores.items }
+    ensures got { IfOk result (λ works. GotPorts ports.items stores.items works.items) }
 {
+    let mut works = Vec::new(alloc);
     let mut ports = ports.into_iter();
-    for store in stores.iter_mut() {
+    for store in stores {
         let Some(port) = ports.next() else {
             unreachable!()
         };
+        let mut store = store;
         store.ports.push(port)?;
+        works.push(store)?;
     }
-    Ok(())
+    Ok(works)
 }
 
 // A worker for each store that acts, which reaches no cluster yet.
@@ -179,36 +183,38 @@ pub struct Start<B> {
     pub bench: Option<B>,
 }
 
-// What is opened by and by: the clusters and their drivers' workers.
+// What is opened by and by: the clusters, their drivers' workers, and those of all stores, with a port to
+// each of the clusters.
 #[derive(Drop)]
 struct Leading<N: ClusterName, B> {
     clusters: Vec<SharedCluster<N>>,
     drivers: Vec<DriverWork<N, B>>,
+    stores: Vec<StoreWork<N>>,
 }
 
 impl<N: ClusterName, B: Drop> Leading<N, B> {
     // Opens a driver's cluster, and gives each store its port to it.
-    fn add(
-        &mut self,
+    fn with(
+        self,
         alloc: Global,
         _board: &Board,
-        stores: &mut Vec<StoreWork<N>>,
         ids: &Ids,
         start: Start<B>,
-    ) -> Result<(), NoMemory>
-        requires start { IsStart _board.now N.meta N.streams ids.now (length self.old.clusters.items) start }
+    ) -> Result<Leading<N, B>, NoMemory>
+        requires start { IsStart _board.now N.meta N.streams ids.now (length self.clusters.items) start }
         requires apart { AreApart (0 ∷ ids.now) }
-        requires ids { map (λ w. w.store) stores.old.items ≡ ids.now }
-        requires led { AreLed _board.now ids.now self.old.clusters.items self.old.drivers.items }
-        requires stores { All (IsLedStore N.streams self.old.clusters.items) stores.old.items }
-        ensures count { OnOk result (length self.new.clusters.items ≡ length self.old.clusters.items + 1) }
-        ensures ids { OnOk result (map (λ w. w.store) stores.new.items ≡ ids.now) }
-        ensures led { OnOk result (AreLed _board.now ids.now self.new.clusters.items self.new.drivers.items) }
-        ensures stores { OnOk result (All (IsLedStore N.streams self.new.clusters.items) stores.new.items) }
-        ensures lines { OnOk result (map (λ w. w.lines) self.new.drivers.items ≡ map (λ w. w.lines) self.old.drivers.items ++ start.lines ∷ []) }
-        ensures benches { OnOk result (map (λ w. w.means.bench) self.new.drivers.items ≡ map (λ w. w.means.bench) self.old.drivers.items ++ start.bench ∷ []) }
-        ensures store_lines { OnOk result (map (λ w. w.lines) stores.new.items ≡ map (λ w. w.lines) stores.old.items) }
+        requires led { AreLed _board.now N.streams ids.now self.clusters.items self.drivers.items self.stores.items }
+        ensures led { IfOk result (λ led. AreLed _board.now N.streams ids.now led.clusters.items led.drivers.items led.stores.items) }
+        ensures count { IfOk result (λ led. length led.clusters.items ≡ length self.clusters.items + 1) }
+        ensures lines { IfOk result (λ led. map (λ w. w.lines) led.drivers.items ≡ map (λ w. w.lines) self.drivers.items ++ start.lines ∷ []) }
+        ensures benches { IfOk result (λ led. map (λ w. w.means.bench) led.drivers.items ≡ map (λ w. w.means.bench) self.drivers.items ++ start.bench ∷ []) }
+        ensures store_lines { IfOk result (λ led. map (λ w. w.lines) led.stores.items ≡ map (λ w. w.lines) self.stores.items) }
     {
+        let Leading {
+            mut clusters,
+            mut drivers,
+            stores,
+        } = self;
         let Start {
             driver,
             oracle,
@@ -217,21 +223,29 @@ impl<N: ClusterName, B: Drop> Leading<N, B> {
             lines,
             bench,
         } = start;
-        let opened = open_cluster(alloc, driver, meta, pipes, ids)?;
-        hand_out(stores, opened.ports)?;
-        self.clusters.push(opened.cluster)?;
-        self.drivers.push(DriverWork {
+        let Opened {
+            cluster,
+            share,
+            ports,
+        } = open_cluster(alloc, driver, meta, pipes, ids)?;
+        let stores = hand_out(alloc, stores, ports)?;
+        clusters.push(cluster)?;
+        drivers.push(DriverWork {
             number: driver,
             means: Means {
                 driver: Driver::of(oracle),
-                share: opened.share,
+                share,
                 bench,
             },
             lines,
             answers: Vec::new(alloc),
             failed: false,
         })?;
-        Ok(())
+        Ok(Leading {
+            clusters,
+            drivers,
+            stores,
+        })
     }
 }
 
@@ -240,27 +254,25 @@ fn lead<N: ClusterName, B: Drop>(
     alloc: Global,
     board: &Board,
     starts: Vec<Start<B>>,
-    stores: &mut Vec<StoreWork<N>>,
+    stores: Vec<StoreWork<N>>,
     ids: &Ids,
 ) -> Result<Leading<N, B>, NoMemory>
     requires starts { AreStarts board.now N.meta N.streams ids.now 0 starts.items }
     requires apart { AreApart (0 ∷ ids.now) }
-    requires ids { map (λ w. w.store) stores.old.items ≡ ids.now }
-    requires stores { All (IsLedStore N.streams []) stores.old.items }
-    ensures count { IfOk result (λ leading. length leading.clusters.items ≡ length starts.items) }
-    ensures ids { OnOk result (map (λ w. w.store) stores.new.items ≡ ids.now) }
-    ensures led { IfOk result (λ leading. AreLed board.now ids.now leading.clusters.items leading.drivers.items) }
-    ensures stores { IfOk result (λ leading. All (IsLedStore N.streams leading.clusters.items) stores.new.items) }
-    ensures lines { IfOk result (λ leading. map (λ w. w.lines) leading.drivers.items ≡ map (λ start. start.lines) starts.items) }
-    ensures benches { IfOk result (λ leading. map (λ w. w.means.bench) leading.drivers.items ≡ map (λ start. start.bench) starts.items) }
-    ensures store_lines { OnOk result (map (λ w. w.lines) stores.new.items ≡ map (λ w. w.lines) stores.old.items) }
+    requires stores { AreLedStores N.streams ids.now [] stores.items }
+    ensures count { IfOk result (λ led. length led.clusters.items ≡ length starts.items) }
+    ensures led { IfOk result (λ led. AreLed board.now N.streams ids.now led.clusters.items led.drivers.items led.stores.items) }
+    ensures lines { IfOk result (λ led. map (λ w. w.lines) led.drivers.items ≡ map (λ start. start.lines) starts.items) }
+    ensures benches { IfOk result (λ led. map (λ w. w.means.bench) led.drivers.items ≡ map (λ start. start.bench) starts.items) }
+    ensures store_lines { IfOk result (λ led. map (λ w. w.lines) led.stores.items ≡ map (λ w. w.lines) stores.items) }
 {
     let mut leading = Leading {
         clusters: Vec::new(alloc),
         drivers: Vec::new(alloc),
+        stores,
     };
     for start in starts {
-        leading.add(alloc, board, stores, ids, start)?;
+        leading = leading.with(alloc, board, ids, start)?;
     }
     Ok(leading)
 }
@@ -286,9 +298,13 @@ pub fn begin<N: BoardName + ClusterName, B: Drop>(
     ensures benches { IfOk result (λ workers. map (λ w. w.means.bench) workers.drivers.items ≡ map (λ start. start.bench) starts.items) }
     ensures store_lines { IfOk result (λ workers. map (λ w. record { store = w.store; lines = w.lines }) workers.stores.items ≡ stores.items) }
 {
-    let mut stores = store_works(alloc, stores)?;
+    let stores = store_works(alloc, stores)?;
     let ids = ids_of(alloc, &stores)?;
-    let Leading { clusters, drivers } = lead(alloc, board, starts, &mut stores, &ids)?;
+    let Leading {
+        clusters,
+        drivers,
+        stores,
+    } = lead(alloc, board, starts, stores, &ids)?;
     let (post, slips) = Post::<N>::open(alloc, board, passes.len() as u8)?;
     let clients = client_works(alloc, board, &post, passes, slips)?;
     Ok(Workers {

@@ -18,21 +18,24 @@ struct Ends<N: ClusterName> {
     takers: Vec<(u64, Taker)>,
 }
 
-// All ends at the first driver's cluster of those that are left.
+// All ends at the first driver's cluster of those that are left, and the stores without them.
 fn ends_of<N: ClusterName>(
     alloc: Global,
     share: Share<N>,
-    stores: &mut Vec<StoreWork<N>>,
-) -> Result<Ends<N>, NoMemory> {
+    stores: Vec<StoreWork<N>>,
+) -> Result<(Ends<N>, Vec<StoreWork<N>>), NoMemory> {
     let mut shares = Vec::new(alloc);
     let mut takers = Vec::new(alloc);
+    let mut works = Vec::new(alloc);
     shares.push(share)?;
-    for store in stores.iter_mut() {
+    for store in stores {
+        let mut store = store;
         let Port { share, taker, .. } = store.ports.remove(0);
         shares.push(share)?;
         takers.push((store.store, taker))?;
+        works.push(store)?;
     }
-    Ok(Ends { shares, takers })
+    Ok((Ends { shares, takers }, works))
 }
 
 // Settles the stream to this store.
@@ -68,25 +71,26 @@ fn close<N: ClusterName, R: Wait>(
 }
 
 /// What all drivers leave: their seats at the oracle and at the metadata, their answers, their clusters,
-/// and their benches.
+/// and their benches; and the stores, without their ports to these clusters.
 #[derive(Drop)]
-pub struct DriverParts<B> {
+pub struct DriverParts<N: ClusterName, B> {
     pub oracle: Vec<DriverSeat>,
     pub meta: Vec<MetaSeat>,
     pub answers: Vec<DriverAnswers>,
     pub clusters: Vec<Cluster>,
     pub benches: Vec<B>,
+    pub stores: Vec<StoreWork<N>>,
 }
 
-impl<B: Drop> DriverParts<B> {
-    fn add<N: ClusterName, R: Wait>(
-        &mut self,
+impl<N: ClusterName, B: Drop> DriverParts<N, B> {
+    // The same with what one more driver leaves, whose cluster is closed.
+    fn with<R: Wait>(
+        self,
         rt: &R,
         alloc: Global,
         work: DriverWork<N, B>,
         cluster: SharedCluster<N>,
-        stores: &mut Vec<StoreWork<N>>,
-    ) -> Result<(), NoMemory> {
+    ) -> Result<DriverParts<N, B>, NoMemory> {
         let DriverWork {
             number,
             means,
@@ -102,16 +106,18 @@ impl<B: Drop> DriverParts<B> {
             share,
             bench,
         } = means;
-        let ends = ends_of(alloc, share, stores)?;
+        let mut parts = self;
+        let (ends, stores) = ends_of(alloc, share, parts.stores)?;
+        parts.stores = stores;
         let Closing { cluster, seat } = close(rt, cluster, ends)?;
-        self.clusters.push(cluster)?;
-        self.meta.push(seat)?;
-        self.oracle.push(driver.into_seat())?;
+        parts.clusters.push(cluster)?;
+        parts.meta.push(seat)?;
+        parts.oracle.push(driver.into_seat())?;
+        parts.answers.push(DriverAnswers { number, answers })?;
         if let Some(bench) = bench {
-            self.benches.push(bench)?;
+            parts.benches.push(bench)?;
         }
-        self.answers.push(DriverAnswers { number, answers })?;
-        Ok(())
+        Ok(parts)
     }
 }
 
@@ -121,21 +127,22 @@ pub fn driver_parts<N: ClusterName, B: Drop, R: Wait>(
     alloc: Global,
     drivers: Vec<DriverWork<N, B>>,
     clusters: Vec<SharedCluster<N>>,
-    stores: &mut Vec<StoreWork<N>>,
-) -> Result<DriverParts<B>, NoMemory> {
+    stores: Vec<StoreWork<N>>,
+) -> Result<DriverParts<N, B>, NoMemory> {
     let mut parts = DriverParts {
         oracle: Vec::new(alloc),
         meta: Vec::new(alloc),
         answers: Vec::new(alloc),
         clusters: Vec::new(alloc),
         benches: Vec::new(alloc),
+        stores,
     };
     let mut clusters = clusters.into_iter();
     for driver in drivers {
         let Some(cluster) = clusters.next() else {
             unreachable!()
         };
-        parts.add(rt, alloc, driver, cluster, stores)?;
+        parts = parts.with(rt, alloc, driver, cluster)?;
     }
     Ok(parts)
 }

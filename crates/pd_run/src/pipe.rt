@@ -52,7 +52,7 @@ pub fn open_pipes(
     ensures drivers { IfOk result (λ pipes. length pipes.items ≡ drivers) }
 {
     let mut pipes = Vec::new(alloc);
-    for _ in 0..drivers {
+    for _driver in 0..drivers {
         pipes.push(pipes_to(alloc, stores)?)?;
     }
     Ok(pipes)

@@ -174,13 +174,13 @@ fn end<N: BoardName + ClusterName, B: Drop, R: Wait>(
         clusters,
         drivers,
         clients,
-        mut stores,
+        stores,
     } = workers;
     let mut metas = metas;
     let mut others = others;
-    let mut parts = driver_parts(rt, alloc, drivers, clusters, &mut stores)?;
+    let mut parts = driver_parts(rt, alloc, drivers, clusters, stores)?;
     let calls = client_parts(alloc, clients)?;
-    let stores = store_answers(alloc, stores)?;
+    let stores = store_answers(alloc, parts.stores)?;
     let post = post.close(rt, calls.slips)?;
     metas.seats.append(&mut parts.meta)?;
     let meta = metas.close(rt)?;

@@ -1,4 +1,4 @@
-use Rattle.std.proofs.Common.{◌≡◌, ◌∙◌, ◌∷◌, ◌++◌, [], List, length, sym, ap, subst}
+use Rattle.std.proofs.Common.{◌≡◌, ◌∙◌, ◌∷◌, ◌++◌, [], List, All, length, refl, sym, ap, subst}
 use Rattle.std.proofs.lemmas.List.{append_assoc}
 use Rattle.std.proofs.lemmas.List.Elements.{All-rest}
 use Rattle.std.specs.Vec.Iter.{into_iter_items}
@@ -6,7 +6,7 @@ use Rattle.pd_run.specs.Tasks.{GoesTo}
 use Rattle.pd_run.specs.Turns.{StoreAnswered}
 use Rattle.pd_run.specs.Works.{ArePorts, made_at, popped_at}
 use Rattle.pd_run.specs.declared.answer.StoreAnswer.{StoreAnswer}
-use Rattle.pd_run.proofs.Turning.{store_more}
+use Rattle.pd_run.proofs.Turning.{store_more, store_none}
 use Rattle.pd_run.proofs.storing.StoreWork.answer_all.Goals as goal
 
 pub loop-line-preserved : goal.loop-line-preserved
@@ -32,3 +32,14 @@ loop-line-preserved g c =
             l.answered.2 line one.says one.own one.did one.made one.popped),
       );
     }
+
+pub loop-line-init : goal.loop-line-init
+loop-line-init g c = record {
+  ports = c.requires.ports;
+  store = refl;
+  fine = c.requires.fine;
+  lines = subst (All (GoesTo (length c.args.clusters.now))) (sym c.into_iter-line-iterator.ensures.into_iter_gives.0) c.requires.lines;
+  streams = refl;
+  answered = ([], refl, subst (λ (y : List StoreAnswer). StoreAnswered [] y (made_at {N = g.row.N.Denot} c.args.self.now.ports.items) (popped_at {N = g.row.N.Denot} c.args.self.now.ports.items)) (sym c.requires.first)
+      (store_none (made_at {N = g.row.N.Denot} c.args.self.now.ports.items) (popped_at {N = g.row.N.Denot} c.args.self.now.ports.items) c.requires.none.made c.requires.none.popped));
+}

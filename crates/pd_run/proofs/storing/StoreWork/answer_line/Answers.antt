@@ -14,6 +14,7 @@ pub answer-requires-clause-cluster : goal.answer-requires-clause-cluster
 answer-requires-clause-cluster g c =
     (subst (IsPort {N = g.row.N.Denot} c.args.self.now.store (get_or c.args.clusters.now (c.args.line.driver - 1) c.index-clusters-place.result)) (sym c.index_mut-port.ensures.value)
     (port_at {N = g.row.N.Denot} c.args.self.now.store c.args.clusters.now c.args.self.now.ports.items (c.args.line.driver - 1) c.index-clusters-place.result c.index_mut-port.result.now c.requires.ports (omega (arith, c.requires.line.0, c.requires.line.1)))).cluster_is
+    ∙ sym c.index-clusters-place.is
 
 pub answer-requires-clause-stream : goal.answer-requires-clause-stream
 answer-requires-clause-stream g c =
