@@ -1,5 +1,5 @@
 -- One more driver's cluster, its driver, and a port of each store to it.
-use Rattle.std.proofs.Common.{◌≡◌, ℕ, zero, suc, ◌+◌, ◌-◌, ◌<◌, ◌==◌, Bool, true, false, List, [], ◌∷◌, ◌++◌, cond, filter, get_or, length, map, refl, sym, ap, ◌∙◌, arith, subst, ne_eqb}
+use Rattle.std.proofs.Common.{◌≡◌, ℕ, zero, suc, ◌+◌, ◌-◌, ◌<◌, ◌==◌, Bool, true, false, List, [], ◌∷◌, ◌++◌, cond, filter, get_or, length, map, refl, sym, ap, ◌∙◌, arith, subst, append_assoc, ne_eqb}
 use Rattle.std.specs.Prelude.{All, Contains}
 use mathlib.Core.Option.{some}
 use Rattle.std.specs.Arc.{arc_value}
@@ -8,16 +8,17 @@ use Rattle.std.proofs.lemmas.List.{length-append, length-map, map-append}
 use Rattle.std.proofs.lemmas.List.Elements.{All-cons, All-head, All-nil, All-push, All-tail}
 use Rattle.atomic_table.specs.Seated.{TableId}
 use Rattle.pd_types.specs.declared.oracle.Actor.TheVariants.{Driver, Store}
-use Rattle.pd_turn.specs.Turns.{Among, AreApart}
+use Rattle.pd_turn.specs.Turns.{Among, AreApart, TurnValue}
 use Rattle.tso_model.specs.Moves.{numbers_from}
 use Rattle.tso_model.proofs.Basics.{in_head, in_tail}
 use Rattle.tso_run.proofs.Rows.{numbered}
 use Rattle.tso_board.specs.declared.board.Board.{Board}
 use Rattle.pd_shared.specs.Names.{StreamName, stream_name, streams_of}
 use Rattle.pd_shared.specs.Shares.{SharedValue, actor_of}
-use Rattle.pd_run.specs.Crews.{AreLed, AreNamed, IsLedStore}
+use Rattle.pd_run.specs.Crews.{AreLed, AreLedStores, AreNamed, AreStarts, IsLedStore, IsStart}
 use Rattle.pd_run.specs.Pipes.{ArePipesTo, GotPort, GotPorts, OpensPort, pipe_name}
 use Rattle.pd_run.specs.Works.{ArePorts, IsClusterAt, IsNewDriver, IsPort, listed_at, made_at, popped_at, streams_at}
+use Rattle.pd_run.specs.declared.begin.Start.{Start}
 use Rattle.pd_run.specs.declared.driving.DriverWork.{DriverWork}
 use Rattle.pd_run.specs.declared.pipe.Pipe.{Pipe}
 use Rattle.pd_run.specs.declared.storing.Port.{Port}
@@ -189,3 +190,21 @@ module _ {N : Type 0} (names : List StreamName) (clusters : List SharedValue) (c
                 (subst (All (Contains names)) listed (all_kept (λ (name : StreamName). name.driver == driver) names names (λ x held. held))) led.led_stores.each;
           };
         })
+
+-- ALL OF THEM
+pub led_none : {N B : Type 0} (board : Board) (names : List StreamName) (stores : List ℕ) (clusters : List SharedValue) (drivers : List (DriverWork N B)) (works : List (StoreWork N)) → clusters ≡ [] → drivers ≡ [] → AreLedStores names stores [] works → AreLed board names stores clusters drivers works
+led_none {N} {B} board names stores clusters drivers works none nobody led = subst (λ (y : List SharedValue × List (DriverWork N B)). AreLed board names stores y.0 y.1 works) (λ i. (sym none i, sym nobody i)) (record {
+  numbers = refl;
+  shares = All-nil (λ (c : SharedValue). c.turn.numbers ≡ 0 ∷ stores);
+  driver_numbers = refl;
+  new = All-nil (IsNewDriver board []);
+  led_stores = led;
+})
+
+-- of what drivers begin with, the first is that of the next driver, and the others of those behind
+pub starts_are : {B : Type 0} (board : Board) (meta : TurnValue) (names : List StreamName) (stores : List ℕ) (before : ℕ) (all rest : List (Start B)) (one : Start B) → AreStarts board meta names stores before all → all ≡ one ∷ rest → IsStart board meta names stores before one × AreStarts board meta names stores (before + 1) rest
+starts_are board meta names stores before all rest one are is = subst (AreStarts board meta names stores before) is are
+
+-- one more was mapped from what begins to what works
+pub mapped_on : {A B X : Type 0} (f : A → X) (h : B → X) (all rest : List A) (one : A) (old new : List B) (whole : List X) → all ≡ one ∷ rest → map h new ≡ map h old ++ f one ∷ [] → map h old ++ map f all ≡ whole → map h new ++ map f rest ≡ whole
+mapped_on f h all rest one old new whole is more so_far = (λ i. more i ++ map f rest) ∙ append_assoc (map h old) (f one ∷ []) (map f rest) ∙ ap (λ l. map h old ++ map f l) (sym is) ∙ so_far

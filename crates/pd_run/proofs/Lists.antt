@@ -49,3 +49,7 @@ first_is P x left rest is all = All-head P x rest (subst (All P) is all)
 pub none_of : {A : Type 0} (xs : List A) → length xs ≡ 0 → xs ≡ []
 none_of [] h = refl
 none_of (x ∷ xs) h = absurd (omega (arith, h))
+
+-- where nothing is left, what was made is all
+pub made_all : {A B : Type 0} (f : A → B) (made whole : List B) (rest : List A) → rest ≡ [] → made ++ map f rest ≡ whole → made ≡ whole
+made_all f made whole rest none is = sym (append-nil made) ∙ ap (λ r. made ++ map f r) (sym none) ∙ is
