@@ -5,3 +5,4 @@ pub mod Lists
 pub mod Handing
 pub mod Leading
 pub mod Opening
+pub mod Beginning
