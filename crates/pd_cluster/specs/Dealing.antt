@@ -2,11 +2,9 @@
 use Rattle.std.specs.Prelude.{◌≡◌, ℕ, ◌-◌, ◌<◌, ◌≤◌, List, [], ◌∷◌, ◌++◌, Contains, length, map, replicate, slice_index_or, slice_set}
 use Rattle.std.specs.List.Sorted.{IsStrictlyIncreasing}
 use Rattle.std.specs.Vec.{vec_items}
-use Rattle.tso_run.specs.declared.line.ClientLine.{ClientLine}
-use Rattle.pd_run.specs.declared.line.DriverLine.{DriverLine}
 use Rattle.pd_run.specs.declared.line.StoreLine.{StoreLine}
-use Rattle.pd_run.specs.declared.line.Tasks.{Tasks}
 use Rattle.pd_run.specs.Runs.{lines_of}
+use Rattle.pd_cluster.specs.RunLines.{ids_of}
 use Rattle.pd_cluster.specs.declared.run_lines.Dealt.{Dealt}
 use Rattle.pd_cluster.specs.declared.run_lines.Own.{Own}
 use Rattle.pd_cluster.specs.declared.run_lines.Own.TheVariants.{Driver as OfDriver, Client as OfClient, Store as OfStore, Nobody}
@@ -25,7 +23,7 @@ pub record HasDealtNothing (drivers : ℕ) (dealt : Dealt) : Type 0 where
 abbrev pub HasPlace : Dealt → Own → Type 0
 HasPlace dealt (OfDriver driver line) = (0 < driver) × (driver ≤ length dealt.tasks.drivers.items)
 HasPlace dealt (OfClient line) = Unit {0}
-HasPlace dealt (OfStore store line) = Contains dealt.ids.items store × IsStrictlyIncreasing dealt.ids.items × (length dealt.tasks.stores.items ≡ length dealt.ids.items)
+HasPlace dealt (OfStore store line) = Contains dealt.ids.items store × IsStrictlyIncreasing dealt.ids.items × (ids_of dealt.tasks ≡ dealt.ids.items)
 HasPlace dealt Nobody = Unit {0}
 
 -- the list at this place has an item more

@@ -113,7 +113,7 @@ fn idle_drivers(alloc: Global, drivers: u8) -> Result<Vec<Vec<DriverLine>>, NoMe
     ensures value { IfOk result (λ lists. map vec_items lists.items ≡ replicate drivers []) }
 {
     let mut lists = Vec::new(alloc);
-    for _ in 0..drivers {
+    for _driver in 0..drivers {
         lists.push(Vec::new(alloc))?;
     }
     Ok(lists)
