@@ -6,6 +6,7 @@ use Rattle.std.proofs.lemmas.List.Folds.{flat_map-map}
 use Rattle.std.proofs.lemmas.Str.{IsUtf8-from_is_utf8, is_utf8-from_IsUtf8}
 use Rattle.std.specs.Prelude.{OnOk, codes, flat_map, is_ok}
 use Rattle.tso_board.specs.Crews.{ledger_windows}
+use Rattle.tso_model.specs.Moves.{numbers_from}
 use Rattle.tso_model.specs.declared.view.Setup.{Setup}
 use Rattle.tso_outcome.specs.Runs.{ClientPart}
 use Rattle.tso_run.specs.declared.end.ClientAnswers.{ClientAnswers}
@@ -13,7 +14,7 @@ use Rattle.tso_run.specs.Runs.{client_part}
 use Rattle.pd_run.specs.declared.answer.DriverAnswers.{DriverAnswers}
 use Rattle.pd_run.specs.declared.answer.StoreAnswers.{StoreAnswers}
 use Rattle.pd_run.specs.declared.runner.Left.{Left}
-use Rattle.pd_run.specs.Runs.{DriverPart, StorePart, driver_part, journal_of, run_of, store_part}
+use Rattle.pd_run.specs.Runs.{DriverPart, Journal, StorePart, driver_part, journal_of, run_of, store_part}
 use Rattle.pd_cluster.specs.RunText.{client_section, driver_section, journal_section, key_text, meta_section, numbered, post_section, run_text, store_section, windows_text}
 
 pub append-nil : {B : Type 0} (xs : List B) → xs ++ [] ≡ xs
@@ -104,3 +105,12 @@ run_sections left t0 t1 t2 t3 t4 t5 t6 t7 e0 e1 e2 e3 e4 e5 e6 e7 k =
 -- the section of one answer, with nothing behind it
 pub one_answer : (word number line : List ℕ) → word ++ number ++ codes "\n" ++ (line ++ []) ++ [] ≡ word ++ number ++ codes "\n" ++ line
 one_answer word number line = λ i. append-nil (word ++ number ++ codes "\n" ++ append-nil line i) i
+
+-- the journals of the drivers from one on
+pub heads : (first : ℕ) (journals : List Journal) → map (λ (journal : Journal). journal.driver) journals ≡ numbers_from first (length journals)
+    → numbered journal_section first journals ≡ flat_map (λ (journal : Journal). journal_section journal.driver journal) journals
+heads first [] own = refl
+heads first (j ∷ js) own =
+    let head : j.driver ≡ first = cc in
+    let rest : map (λ (journal : Journal). journal.driver) js ≡ numbers_from (first + 1) (length js) = cc in
+    ap (λ (n : ℕ). journal_section n j ++ numbered journal_section (first + 1) js) (sym head) ∙ ap (λ (bs : List ℕ). journal_section j.driver j ++ bs) (heads (first + 1) js rest)
