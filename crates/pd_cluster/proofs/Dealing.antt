@@ -39,7 +39,8 @@ are_acting lines i pushed sorted stores past before same rise left =
       rise = subst IsStrictlyIncreasing (sym deduped) (IsStrictlyIncreasing-dedup sorted rise);
       exactly = λ store. (
         (λ has. subst (λ (xs : List ℕ). Contains xs store) all (Contains-permutation sorted pushed store (IsPermutation-sym pushed sorted same) (Contains-from_dedup eqb sorted store (subst (λ (xs : List ℕ). Contains xs store) deduped has)))),
-        (λ has. subst (λ (xs : List ℕ). Contains xs store) (sym deduped) (Contains-dedup_nat sorted store (Contains-permutation pushed sorted store same (subst (λ (xs : List ℕ). Contains xs store) (sym all) has)))));
+        (λ has. subst (λ (xs : List ℕ). Contains xs store) (sym deduped) (Contains-dedup_nat sorted store (Contains-permutation pushed sorted store same (subst (λ (xs : List ℕ). Contains xs store) (sym all) has)))),
+      );
     }
 
 -- where a search among rising ids ends
@@ -86,7 +87,7 @@ pub line_more : (stores : List StoreLines) (i : ℕ) (old : StoreLines) (new : V
     → map lines_of (set stores i (record { store = old.store; lines = new })) ≡ with_line i store line (map lines_of stores)
 line_more stores i old new store line lt read own pushed =
     let lines : new.items ≡ (get_or (map lines_of stores) i (without_lines store)).1 ++ line ∷ [] =
-        pushed ∙ ap (λ (ys : List StoreLine). ys ++ line ∷ []) (ap (λ (s : StoreLines). (lines_of s).1) read ∙ ap (λ (p : ℕ × List StoreLine). p.1) (sym (get_or-map lines_of stores i old (without_lines store) lt))) in
+    pushed ∙ ap (λ (ys : List StoreLine). ys ++ line ∷ []) (ap (λ (s : StoreLines). (lines_of s).1) read ∙ ap (λ (p : ℕ × List StoreLine). p.1) (sym (get_or-map lines_of stores i old (without_lines store) lt))) in
     map-set lines_of stores i (record { store = old.store; lines = new }) ∙ ap (λ (p : ℕ × List StoreLine). set (map lines_of stores) i p) (λ j. (own j, lines j))
 
 -- ALL LINES
@@ -186,7 +187,7 @@ module _ (drivers : ℕ) (lines : List Line) (line : Line) where
       let there : get_or old (d - 1) [] ++ l ∷ [] ≡ g d = ap (λ (xs : List DriverLine). xs ++ l ∷ []) (ap (λ (xs : List (List DriverLine)). get_or xs (d - 1) []) before ∙ get_or-map f keys (d - 1) 0 [] place ∙ ap f at) ∙ sym here in
       now ∙ ap (λ (xs : List (List DriverLine)). set xs (d - 1) (get_or old (d - 1) [] ++ l ∷ [])) before ∙ ap (λ (xs : List DriverLine). set (map f keys) (d - 1) xs) there
       ∙ map_one f g keys (d - 1) d (numbers_rise 1 drivers) place at
-          (λ k ne. none_of (λ (m : Line). of_driver k (own_of m.number m.act)) lines line (ap (of_driver k) is ∙ ap (λ (b : Bool). cond b (Some l) None) (ne_eqb d k (λ same. ne (sym same)))))
+      (λ k ne. none_of (λ (m : Line). of_driver k (own_of m.number m.act)) lines line (ap (of_driver k) is ∙ ap (λ (b : Bool). cond b (Some l) None) (ne_eqb d k (λ same. ne (sym same)))))
 
   -- a store's line
   pub store_more : (s place : ℕ) (l : StoreLine) → own_of line.number line.act ≡ OfStore s l → (ids : List ℕ) → IsStrictlyIncreasing ids → place < length ids → get_or ids place s ≡ s → (old new : List (ℕ × List StoreLine))
@@ -197,11 +198,11 @@ module _ (drivers : ℕ) (lines : List Line) (line : Line) where
       let at : get_or ids place 0 ≡ s = get_or_default ids place 0 s low ∙ own in
       let here : lines_of_store s more ≡ lines_of_store s lines ++ l ∷ [] = more_of (λ (m : Line). of_store s (own_of m.number m.act)) lines line l (ap (of_store s) is ∙ ap (λ (b : Bool). cond b (Some l) None) (eq-eqb s s refl)) in
       let had : (get_or old place (without_lines s)).1 ≡ lines_of_store s lines =
-          ap (λ (xs : List (ℕ × List StoreLine)). (get_or xs place (without_lines s)).1) before ∙ ap (λ (p : ℕ × List StoreLine). p.1) (get_or-map f ids place 0 (without_lines s) low ∙ ap f at) in
+      ap (λ (xs : List (ℕ × List StoreLine)). (get_or xs place (without_lines s)).1) before ∙ ap (λ (p : ℕ × List StoreLine). p.1) (get_or-map f ids place 0 (without_lines s) low ∙ ap f at) in
       let there : (get_or old place (without_lines s)).1 ++ l ∷ [] ≡ lines_of_store s more = ap (λ (xs : List StoreLine). xs ++ l ∷ []) had ∙ sym here in
       now ∙ ap (λ (xs : List (ℕ × List StoreLine)). set xs place (s, (get_or old place (without_lines s)).1 ++ l ∷ [])) before ∙ ap (λ (xs : List StoreLine). set (map f ids) place (s, xs)) there
       ∙ map_one f g ids place s rise low at
-          (λ k ne. λ i. (k, none_of (λ (m : Line). of_store k (own_of m.number m.act)) lines line (ap (of_store k) is ∙ ap (λ (b : Bool). cond b (Some l) None) (ne_eqb s k (λ same. ne (sym same)))) i))
+      (λ k ne. λ i. (k, none_of (λ (m : Line). of_store k (own_of m.number m.act)) lines line (ap (of_store k) is ∙ ap (λ (b : Bool). cond b (Some l) None) (ne_eqb s k (λ same. ne (sym same)))) i))
 
   -- a client's line
   pub client_more : (l : ClientLine) → own_of line.number line.act ≡ OfClient l → (old new : List ClientLine) → old ≡ lines_of_clients lines → new ≡ old ++ l ∷ [] → new ≡ lines_of_clients more

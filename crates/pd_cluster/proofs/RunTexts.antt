@@ -114,3 +114,16 @@ heads first (j ∷ js) own =
     let head : j.driver ≡ first = cc in
     let rest : map (λ (journal : Journal). journal.driver) js ≡ numbers_from (first + 1) (length js) = cc in
     ap (λ (n : ℕ). journal_section n j ++ numbered journal_section (first + 1) js) (sym head) ∙ ap (λ (bs : List ℕ). journal_section j.driver j ++ bs) (heads (first + 1) js rest)
+
+-- lines of the metadata, whose words stand in pieces
+pub put_pieces : (n d t v key text : List ℕ) → key ≡ text → n ++ codes " driver " ++ d ++ codes " " ++ (codes "put " ++ t ++ codes " " ++ text) ++ codes " " ++ (codes "old-term " ++ v) ++ codes "\n"
+    ≡ n ++ codes " driver " ++ d ++ codes " put " ++ t ++ codes " " ++ key ++ codes " old-term " ++ v ++ codes "\n"
+put_pieces n d t v key text same = ap (λ (k : List ℕ). n ++ codes " driver " ++ d ++ codes " " ++ (codes "put " ++ t ++ codes " " ++ k) ++ codes " " ++ (codes "old-term " ++ v) ++ codes "\n") (sym same) ∙ simp append_assoc
+
+pub delete_pieces : (n d t v key text : List ℕ) → key ≡ text → n ++ codes " driver " ++ d ++ codes " " ++ (codes "delete " ++ t ++ codes " " ++ text) ++ codes " " ++ (codes "conflict " ++ v) ++ codes "\n"
+    ≡ n ++ codes " driver " ++ d ++ codes " delete " ++ t ++ codes " " ++ key ++ codes " conflict " ++ v ++ codes "\n"
+delete_pieces n d t v key text same = ap (λ (k : List ℕ). n ++ codes " driver " ++ d ++ codes " " ++ (codes "delete " ++ t ++ codes " " ++ k) ++ codes " " ++ (codes "conflict " ++ v) ++ codes "\n") (sym same) ∙ simp append_assoc
+
+pub limit_pieces : (n d t key text : List ℕ) → key ≡ text → n ++ codes " driver " ++ d ++ codes " " ++ (codes "delete " ++ t ++ codes " " ++ text) ++ codes " " ++ codes "meta-limit" ++ codes "\n"
+    ≡ n ++ codes " driver " ++ d ++ codes " delete " ++ t ++ codes " " ++ key ++ codes " meta-limit\n"
+limit_pieces n d t key text same = ap (λ (k : List ℕ). n ++ codes " driver " ++ d ++ codes " " ++ (codes "delete " ++ t ++ codes " " ++ k) ++ codes " " ++ codes "meta-limit" ++ codes "\n") (sym same) ∙ simp append_assoc

@@ -1,5 +1,5 @@
 // What the definitions of an outcome give, by themselves.
-ghost use Rattle.std.specs.Prelude.{◌≡◌, ◌<◌, ◌≤◌, ◌+◌, ◌^◌, ◌↔◌, List, [], ◌∷◌, ◌++◌, ℕ, codes, flat_map, length, map, Some, None, Ok, true};
+ghost use Rattle.std.specs.Prelude.{◌≡◌, ◌<◌, ◌≤◌, ◌+◌, ◌^◌, ◌↔◌, List, [], ◌∷◌, ◌++◌, ℕ, codes, flat_map, length, map, Some, None, Ok, true, IsUtf8};
 ghost use Rattle.std.specs.Fmt.{decimal};
 ghost use Rattle.pd_types.specs.declared.oracle.Actor.TheVariants.{Driver, Client};
 ghost use Rattle.pd_script.specs.declared.act.Act.TheVariants as acts;
@@ -27,7 +27,6 @@ ghost use Rattle.pd_run.specs.declared.answer.DriverSays.TheVariants as driver_s
 ghost use Rattle.pd_run.specs.declared.answer.StoreSays.TheVariants as store_says;
 ghost use Rattle.pd_state.specs.declared.entry.Entry.{Entry};
 ghost use Rattle.pd_state.specs.declared.reply.Reply.TheVariants as told;
-ghost use Rattle.pd_types.specs.declared.step.Step.TheVariants.{AddLearner};
 ghost use Rattle.tso_core.specs.declared.reply.Due.TheVariants as dues;
 ghost use Rattle.tso_core.specs.declared.reply.Reply.TheVariants as replies;
 ghost use Rattle.tso_client.specs.declared.entry.PostWhat.TheVariants as posted;
@@ -157,7 +156,7 @@ pub fn the_sections_of_a_run()
         ++ (codes "journal " ++ decimal 1 ++ codes "\n" ++ entry_line 1 entry ++ (codes "journal " ++ decimal 2 ++ codes "\n"))
         ++ (codes "meta\n" ++ meta_line 1 call)
         ++ (codes "post\n" ++ (post_line 1 (record { client = 1; line = 3; what = posted.Told 1 (record { term = 1; last = 262144003 }) })
-            ++ post_line 2 (record { client = 1; line = 4; what = posted.Heard (record { term = 1; last = 262144003 }) }))) }
+        ++ post_line 2 (record { client = 1; line = 4; what = posted.Heard (record { term = 1; last = 262144003 }) }))) }
 {}
 
 /// Each journal of a run stands behind the number of its driver, where they are those of the drivers from
@@ -168,20 +167,21 @@ pub fn each_journal_stands_behind_its_driver()
 {}
 
 /// The lines of a run's text: a window; what a driver's cluster replied, also where its term was given up
-/// by that, and what a store took; calls to the metadata, and entries of the post, by their numbers in
+/// by that, and that nothing waited for a store; calls to the metadata, and entries of the post, by their numbers in
 /// the journals.
 pub fn the_lines_of_a_run()
     ensures window { window_line (record { term = 1; driver = 2; lo = 1000; hi = 4000 })
         ≡ codes "window " ++ decimal 1 ++ codes " " ++ decimal 2 ++ codes " " ++ decimal 1000 ++ codes " " ++ decimal 4000 ++ codes "\n" }
     ensures replied { driver_line (record { line = 3; says = driver_says.Cluster told.RulePut }) ≡ decimal 3 ++ codes " rule set\n" }
     ensures resigned { driver_line (record { line = 4; says = driver_says.Resigned told.Retired true }) ≡ decimal 4 ++ codes " retired\n" }
-    ensures popped { store_line (record { line = 7; driver = 1; says = store_says.Popped (Some (record { driver = 1; term = 2; entry = 5; region = 8; to = 1; step = AddLearner 9 3 })) })
-        ≡ decimal 7 ++ codes " popped term " ++ decimal 2 ++ codes " entry " ++ decimal 5 ++ codes " region " ++ decimal 8 ++ codes " add-learner peer " ++ decimal 9 ++ codes " store " ++ decimal 3 ++ codes "\n" }
     ensures empty { store_line (record { line = 8; driver = 1; says = store_says.Popped None }) ≡ decimal 8 ++ codes " empty\n" }
     ensures lead { meta_line 1 (record { driver = 2; call = calls.Lead 3; verdict = verdicts.Accepted 0 }) ≡ decimal 1 ++ codes " driver " ++ decimal 2 ++ codes " lead " ++ decimal 3 ++ codes " accepted " ++ decimal 0 ++ codes "\n" }
-    ensures put { meta_line 2 (record { driver = 1; call = calls.Put 3 (codes "id") 4 []; verdict = verdicts.OldTerm 5 }) ≡ decimal 2 ++ codes " driver " ++ decimal 1 ++ codes " put " ++ decimal 3 ++ codes " id old-term " ++ decimal 5 ++ codes "\n" }
-    ensures delete { meta_line 3 (record { driver = 1; call = calls.Delete 5 (codes "id") 4; verdict = verdicts.Conflict 6 }) ≡ decimal 3 ++ codes " driver " ++ decimal 1 ++ codes " delete " ++ decimal 5 ++ codes " id conflict " ++ decimal 6 ++ codes "\n" }
-    ensures limit { meta_line 4 (record { driver = 1; call = calls.Delete 5 (codes "id") 4; verdict = verdicts.Limit }) ≡ decimal 4 ++ codes " driver " ++ decimal 1 ++ codes " delete " ++ decimal 5 ++ codes " id meta-limit\n" }
+    ensures put { (key bytes : List ℕ) → IsUtf8 key → meta_line 2 (record { driver = 1; call = calls.Put 3 key 4 bytes; verdict = verdicts.OldTerm 5 })
+        ≡ decimal 2 ++ codes " driver " ++ decimal 1 ++ codes " put " ++ decimal 3 ++ codes " " ++ key ++ codes " old-term " ++ decimal 5 ++ codes "\n" }
+    ensures delete { (key : List ℕ) → IsUtf8 key → meta_line 3 (record { driver = 1; call = calls.Delete 5 key 4; verdict = verdicts.Conflict 6 })
+        ≡ decimal 3 ++ codes " driver " ++ decimal 1 ++ codes " delete " ++ decimal 5 ++ codes " " ++ key ++ codes " conflict " ++ decimal 6 ++ codes "\n" }
+    ensures limit { (key : List ℕ) → IsUtf8 key → meta_line 4 (record { driver = 1; call = calls.Delete 5 key 4; verdict = verdicts.Limit })
+        ≡ decimal 4 ++ codes " driver " ++ decimal 1 ++ codes " delete " ++ decimal 5 ++ codes " " ++ key ++ codes " meta-limit\n" }
     ensures told { post_line 1 (record { client = 7; line = 3; what = posted.Told 2 (record { term = 5; last = 9 }) })
         ≡ decimal 1 ++ codes " line " ++ decimal 3 ++ codes " told\n" }
     ensures heard { post_line 2 (record { client = 7; line = 4; what = posted.Heard (record { term = 5; last = 9 }) })

@@ -19,9 +19,16 @@ returns c =
     let stores = c.args.self.now.tasks.stores.items in
     let at = found_at ids c.deref.result.now c.args.store c.in-Ok.place c.binary_search.result c.deref.ensures.value c.in-Ok.is c.binary_search.ensures.position c.requires.place.1 in
     record {
-      ok = (refl, refl,
-          (c.in-Ok.place, at.0, get_or_default ids c.in-Ok.place c.args.store 0 at.0 ∙ at.1,
-              line_more stores c.in-Ok.place c.index_mut.result.now c.push.new.self c.args.store c.args.line (place_of stores ids c.in-Ok.place c.requires.place.2 at.0) c.index_mut.ensures.value
-              (own_at stores ids c.in-Ok.place c.args.store c.index_mut.result.now c.requires.place.2 at.0 at.1 c.index_mut.ensures.value) c.in_ok-push.ensures.items),
-          refl);
+      ok = (
+        refl,
+        refl,
+        (
+          c.in-Ok.place,
+          at.0,
+          get_or_default ids c.in-Ok.place c.args.store 0 at.0 ∙ at.1,
+          line_more stores c.in-Ok.place c.index_mut.result.now c.push.new.self c.args.store c.args.line (place_of stores ids c.in-Ok.place c.requires.place.2 at.0) c.index_mut.ensures.value
+              (own_at stores ids c.in-Ok.place c.args.store c.index_mut.result.now c.requires.place.2 at.0 at.1 c.index_mut.ensures.value) c.in_ok-push.ensures.items,
+        ),
+        refl,
+      );
     }
