@@ -98,7 +98,7 @@ fn lines_that_threads_do_not_serve_are_refused(rt: HostRuntime) -> Result<(), Fa
     expect(&rt, "pop 1 8\n", Status::Limit, "limit drivers 8\n")
 }
 
-// Lets each line begin once the one before it in this order was answered, and counts how often it was asked.
+// Lets each line of this order begin once the one before it was answered, and all others then, and counts how often it was asked.
 #[derive(Drop)]
 struct InOrder<'a> {
     order: &'a [u32],
@@ -111,7 +111,7 @@ impl<'a> Gate for InOrder<'a> {
         self.asks.fetch_add(1, Ordering::SeqCst);
         thread::yield_now();
         let next = self.answered.load(Ordering::SeqCst) as usize;
-        self.order.get(next).copied() != Some(number)
+        self.order.get(next).is_some_and(|line| *line != number)
     }
 
     fn done(&self, _actor: Actor, _number: u32) {
@@ -420,12 +420,13 @@ fn expect_read<R: AllocGlobal + Abort>(rt: &R, script: &str, text: &str) -> Resu
     Ok(())
 }
 
-// Runs a script and reads what it printed.
-fn expect_lawful<R: Threads + Wait + Sync + AllocGlobal + Abort>(
+// Runs a script by this gate, and reads what it printed.
+fn expect_lawful<R: Threads + Wait + Sync + AllocGlobal + Abort, G: Gate + Sync>(
     rt: &R,
     script: &str,
+    gate: &G,
 ) -> Result<(), Fail> {
-    let (ended, text) = run_by(rt, rt.alloc(), script, &OpenGate)?;
+    let (ended, text) = run_by(rt, rt.alloc(), script, gate)?;
     assert_eq!(rt; ended, Status::Done, "{script}");
     expect_read(rt, script, text.as_str())
 }
@@ -433,7 +434,7 @@ fn expect_lawful<R: Threads + Wait + Sync + AllocGlobal + Abort>(
 #[test]
 fn a_thousand_runs_of_two_drivers_are_lawful(rt: HostRuntime) -> Result<(), Fail> {
     for _ in 0..1000 {
-        expect_lawful(&rt, TWO_DRIVERS)?;
+        expect_lawful(&rt, TWO_DRIVERS, &OpenGate)?;
     }
     Ok(())
 }
@@ -451,6 +452,18 @@ fn next(x: u64) -> u64 {
     x.wrapping_mul(6364136223846793005)
         .wrapping_add(1442695040888963407)
 }
+
+// A driver leads two regions, whose leaders' stores are sent steps. Then the made lines run.
+const OPENING: &str = "\
+lead 1 1000
+hello 1 1 1000 a
+hello 2 1 1000 b
+hello 3 1 1000 c
+beat 1 1 1000 1 - 80 1 1 11 11:1:v
+beat 2 1 1000 2 80 - 1 1 12 12:2:v
+check 1 1000 1
+check 1 1000 2
+";
 
 // The forms of made lines: of the drivers D, the clients C and E, the stores S, the regions R of keys K with a peer P, the counts N and
 // the versions V, at the moment M.
@@ -488,7 +501,7 @@ fn made(letter: char, x: u64, line: u64) -> u64 {
         'D' => driver,
         'S' | 'C' => store,
         'E' => 1 + x / 68_719_476_736 % 3,
-        'M' => line.saturating_mul(400),
+        'M' => line.saturating_mul(400).saturating_add(1000),
         'N' => 1 + x / 68_719_476_736 % 100_000,
         'P' => store.saturating_add(10),
         'R' => 1 + x / 68_719_476_736 % 2,
@@ -514,13 +527,13 @@ fn push_made(text: &mut String, form: &str, x: u64, line: u64) -> Result<(), Fai
 fn runs_of_made_scripts_are_lawful(rt: HostRuntime) -> Result<(), Fail> {
     let mut x = 7;
     for _ in 0..200 {
-        let mut script = String::new(rt.alloc());
+        let mut script = String::from_str(rt.alloc(), OPENING)?;
         for line in 0..40 {
             x = next(x);
             let form = FORMS[(x / 1_099_511_627_776 % 24) as usize];
             push_made(&mut script, form, x, line)?;
         }
-        expect_lawful(&rt, script.as_str())?;
+        expect_lawful(&rt, script.as_str(), &in_order(&[1, 2, 3, 4, 5, 6, 7, 8]))?;
     }
     Ok(())
 }
