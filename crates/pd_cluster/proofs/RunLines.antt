@@ -50,6 +50,20 @@ line_of n act = record { number = n; actor = actor_in act; act = act }
 whole_line : (line : Line) → line.actor ≡ actor_in line.act → line_of line.number line.act ≡ line
 whole_line line is = ap (λ (actor : Option Actor). let l : Line = record { number = line.number; actor = actor; act = line.act } in l) (sym is)
 
+-- Who asks a request: a store, whose id is above 0 where the request has its form, or the driver itself
+by_asker : (d : ℕ) (request : Request) (P : Actor → Type 0) → ((s : ℕ) → asker d request ≡ ByStore s → (IsAsked request → 0 < s) → P (ByStore s)) → P (ByDriver d) → P (asker d request)
+by_asker d (Hello store moment address labels) P by_store by_driver = by_store store refl (λ asked. asked.0.id.some)
+by_asker d (Alive store moment) P by_store by_driver = by_store store refl (λ asked. asked.id.some)
+by_asker d (Beat store moment beat) P by_store by_driver = by_store store refl (λ asked. asked.0.id.some)
+by_asker d (Rule moment json) P by_store by_driver = by_driver
+by_asker d (Unrule moment group id) P by_store by_driver = by_driver
+by_asker d (Check moment region) P by_store by_driver = by_driver
+by_asker d (Patrol moment workers) P by_store by_driver = by_driver
+by_asker d (Schedule moment) P by_store by_driver = by_driver
+by_asker d (Ctl moment words) P by_store by_driver = by_driver
+by_asker d (Term term moment) P by_store by_driver = by_driver
+by_asker d Retire P by_store by_driver = by_driver
+
 -- an element in front of a list, where a test passes, and its image
 image : {A B : Type 0} (f : A → B) (x : A) (y : B) (xs : List A) (ys : List B) (test : Bool) → (test ≡ true → f x ≡ y) → map f xs ≡ ys → map f (cons_option (cond test (Some x) None) xs) ≡ cond test (y ∷ ys) ys
 image f x y xs ys true one same = λ i. one refl i ∷ same i
@@ -71,17 +85,9 @@ driven d e n act l lines one same =
     image (script_line_of_driver d) l (at e) (lines_of_driver d lines) (lines_by (ByDriver d) lines) (eqb e d) (λ is. one d ∙ ap at (sym (eqb-true e d is))) same
 
 ask_driven : (d n e : ℕ) (request : Request) (lines : List Line) → Driven d lines → Driven d (line_of n (Ask e request) ∷ lines)
-ask_driven d n e (Hello store moment address labels) lines same = same
-ask_driven d n e (Alive store moment) lines same = same
-ask_driven d n e (Beat store moment beat) lines same = same
-ask_driven d n e (Rule moment json) lines same = driven d e n (λ (k : ℕ). Ask k (Rule moment json)) _ lines (λ k. refl) same
-ask_driven d n e (Unrule moment group id) lines same = driven d e n (λ (k : ℕ). Ask k (Unrule moment group id)) _ lines (λ k. refl) same
-ask_driven d n e (Check moment region) lines same = driven d e n (λ (k : ℕ). Ask k (Check moment region)) _ lines (λ k. refl) same
-ask_driven d n e (Patrol moment workers) lines same = driven d e n (λ (k : ℕ). Ask k (Patrol moment workers)) _ lines (λ k. refl) same
-ask_driven d n e (Schedule moment) lines same = driven d e n (λ (k : ℕ). Ask k (Schedule moment)) _ lines (λ k. refl) same
-ask_driven d n e (Ctl moment words) lines same = driven d e n (λ (k : ℕ). Ask k (Ctl moment words)) _ lines (λ k. refl) same
-ask_driven d n e (Term term moment) lines same = driven d e n (λ (k : ℕ). Ask k (Term term moment)) _ lines (λ k. refl) same
-ask_driven d n e Retire lines same = driven d e n (λ (k : ℕ). Ask k Retire) _ lines (λ k. refl) same
+ask_driven d n e request lines same = by_asker e request
+    (λ who. map (script_line_of_driver d) (cons_option (of_driver d (asked_by n e request who)) (lines_of_driver d lines)) ≡ lines_by (ByDriver d) (record { number = n; actor = Some who; act = Ask e request } ∷ lines))
+    (λ s is above. same) (driven d e n (λ (k : ℕ). Ask k request) _ lines (λ k. refl) same)
 
 front_driven : (d n : ℕ) (act : Act) (first : Bool) (lines : List Line) → is_misplaced OnThreads first (standing_of act) ≡ false → Driven d lines → Driven d (line_of n act ∷ lines)
 front_driven d n (Cell saved term) first lines placed same = same
@@ -105,17 +111,9 @@ called : (c : ℕ) (l : ClientLine) (lines : List Line) → Called c lines
 called c l lines same = both script_line_of_client l (filter (λ (l : ClientLine). l.client == c) (lines_of_clients lines)) (lines_by (ByClient c) lines) (eqb l.client c) same
 
 ask_called : (c n e : ℕ) (request : Request) (lines : List Line) → Called c lines → Called c (line_of n (Ask e request) ∷ lines)
-ask_called c n e (Hello store moment address labels) lines same = same
-ask_called c n e (Alive store moment) lines same = same
-ask_called c n e (Beat store moment beat) lines same = same
-ask_called c n e (Rule moment json) lines same = same
-ask_called c n e (Unrule moment group id) lines same = same
-ask_called c n e (Check moment region) lines same = same
-ask_called c n e (Patrol moment workers) lines same = same
-ask_called c n e (Schedule moment) lines same = same
-ask_called c n e (Ctl moment words) lines same = same
-ask_called c n e (Term term moment) lines same = same
-ask_called c n e Retire lines same = same
+ask_called c n e request lines same = by_asker e request
+    (λ who. map script_line_of_client (filter (λ (l : ClientLine). l.client == c) (cons_option (of_client (asked_by n e request who)) (lines_of_clients lines))) ≡ lines_by (ByClient c) (record { number = n; actor = Some who; act = Ask e request } ∷ lines))
+    (λ s is above. same) same
 
 front_called : (c n : ℕ) (act : Act) (first : Bool) (lines : List Line) → is_misplaced OnThreads first (standing_of act) ≡ false → Called c lines → Called c (line_of n act ∷ lines)
 front_called c n (Cell saved term) first lines placed same = same
@@ -140,17 +138,9 @@ acted s t n act l lines one same =
     image (script_line_of_store s) l (at t) (lines_of_store s lines) (lines_by (ByStore s) lines) (eqb t s) (λ is. one s ∙ ap at (sym (eqb-true t s is))) same
 
 ask_acted : (s n e : ℕ) (request : Request) (lines : List Line) → Acted s lines → Acted s (line_of n (Ask e request) ∷ lines)
-ask_acted s n e (Hello store moment address labels) lines same = acted s store n (λ (k : ℕ). Ask e (Hello store moment address labels)) _ lines (λ k. refl) same
-ask_acted s n e (Alive store moment) lines same = acted s store n (λ (k : ℕ). Ask e (Alive store moment)) _ lines (λ k. refl) same
-ask_acted s n e (Beat store moment beat) lines same = acted s store n (λ (k : ℕ). Ask e (Beat store moment beat)) _ lines (λ k. refl) same
-ask_acted s n e (Rule moment json) lines same = same
-ask_acted s n e (Unrule moment group id) lines same = same
-ask_acted s n e (Check moment region) lines same = same
-ask_acted s n e (Patrol moment workers) lines same = same
-ask_acted s n e (Schedule moment) lines same = same
-ask_acted s n e (Ctl moment words) lines same = same
-ask_acted s n e (Term term moment) lines same = same
-ask_acted s n e Retire lines same = same
+ask_acted s n e request lines same = by_asker e request
+    (λ who. map (script_line_of_store s) (cons_option (of_store s (asked_by n e request who)) (lines_of_store s lines)) ≡ lines_by (ByStore s) (record { number = n; actor = Some who; act = Ask e request } ∷ lines))
+    (λ t is above. acted s t n (λ (k : ℕ). Ask e request) _ lines (λ k. refl) same) same
 
 front_acted : (s n : ℕ) (act : Act) (first : Bool) (lines : List Line) → is_misplaced OnThreads first (standing_of act) ≡ false → Acted s lines → Acted s (line_of n act ∷ lines)
 front_acted s n (Cell saved term) first lines placed same = same
@@ -174,17 +164,7 @@ module _ (drivers clients : ℕ) (Holds : List Line → Type 0) (none : Holds []
 -- WHO ACTS
 module _ (drivers clients : ℕ) where
   ask_among : (stores : List ℕ) (d : ℕ) (request : Request) → (0 < d) × (d ≤ drivers) → ((s : ℕ) → Some (asker d request) ≡ Some (ByStore s) → Contains stores s) → IsAmong drivers clients stores (asker d request)
-  ask_among stores d (Hello store moment address labels) low acts = acts store refl
-  ask_among stores d (Alive store moment) low acts = acts store refl
-  ask_among stores d (Beat store moment beat) low acts = acts store refl
-  ask_among stores d (Rule moment json) low acts = low
-  ask_among stores d (Unrule moment group id) low acts = low
-  ask_among stores d (Check moment region) low acts = low
-  ask_among stores d (Patrol moment workers) low acts = low
-  ask_among stores d (Schedule moment) low acts = low
-  ask_among stores d (Ctl moment words) low acts = low
-  ask_among stores d (Term term moment) low acts = low
-  ask_among stores d Retire low acts = low
+  ask_among stores d request low acts = by_asker d request (IsAmong drivers clients stores) (λ s is above. acts s (ap (λ (who : Actor). Some who) is)) low
 
   driver_low : (d : ℕ) → 1 ≤ d → d ≤ drivers → (0 < d) × (d ≤ drivers)
   driver_low d low high = (omega (arith, low), high)
@@ -213,17 +193,7 @@ module _ (drivers clients : ℕ) where
   is_acted stores (Pop s d) lawful acts = acts s refl
 
   ask_for : (stores : List ℕ) (n d : ℕ) (request : Request) → (0 < d) × (d ≤ drivers) → ((s : ℕ) → Some (asker d request) ≡ Some (ByStore s) → Contains stores s) → IsFor drivers stores (asked_by n d request (asker d request))
-  ask_for stores n d (Hello store moment address labels) low acts = acts store refl
-  ask_for stores n d (Alive store moment) low acts = acts store refl
-  ask_for stores n d (Beat store moment beat) low acts = acts store refl
-  ask_for stores n d (Rule moment json) low acts = low
-  ask_for stores n d (Unrule moment group id) low acts = low
-  ask_for stores n d (Check moment region) low acts = low
-  ask_for stores n d (Patrol moment workers) low acts = low
-  ask_for stores n d (Schedule moment) low acts = low
-  ask_for stores n d (Ctl moment words) low acts = low
-  ask_for stores n d (Term term moment) low acts = low
-  ask_for stores n d Retire low acts = low
+  ask_for stores n d request low acts = by_asker d request (λ who. IsFor drivers stores (asked_by n d request who)) (λ s is above. acts s (ap (λ (who : Actor). Some who) is)) low
 
   is_for : (stores : List ℕ) (n : ℕ) (act : Act) → IsLawful drivers clients act → ((s : ℕ) → actor_in act ≡ Some (ByStore s) → Contains stores s) → IsFor drivers stores (own_of n act)
   is_for stores n (Lead d now) lawful acts = driver_low d lawful.0.low lawful.0.high
@@ -324,17 +294,7 @@ CallOf k None = Unit {0}
 CallOf k (Some line) = IsCall k line.ask
 
 ask_call : (k : Setup) (n d : ℕ) (request : Request) → CallOf k (of_client (asked_by n d request (asker d request)))
-ask_call k n d (Hello store moment address labels) = tt
-ask_call k n d (Alive store moment) = tt
-ask_call k n d (Beat store moment beat) = tt
-ask_call k n d (Rule moment json) = tt
-ask_call k n d (Unrule moment group id) = tt
-ask_call k n d (Check moment region) = tt
-ask_call k n d (Patrol moment workers) = tt
-ask_call k n d (Schedule moment) = tt
-ask_call k n d (Ctl moment words) = tt
-ask_call k n d (Term term moment) = tt
-ask_call k n d Retire = tt
+ask_call k n d request = by_asker d request (λ who. CallOf k (of_client (asked_by n d request who))) (λ s is above. tt) tt
 
 call_of : (k : Setup) (n : ℕ) (act : Act) → IsLawful k.drivers k.clients act → CallOf k (of_client (own_of n act))
 call_of k n (Take c d m) lawful = (omega (arith, lawful.1.0.low), lawful.1.0.high, omega (arith, lawful.1.1.0.low), omega (arith, lawful.1.1.0.high))
@@ -361,17 +321,7 @@ module _ (drivers clients : ℕ) where
   go_if false line goes = tt
 
   ask_goes : (s n d : ℕ) (request : Request) → (0 < d) × (d ≤ drivers) → GoOf (of_store s (asked_by n d request (asker d request)))
-  ask_goes s n d (Hello store moment address labels) low = go_if (eqb store s) _ low
-  ask_goes s n d (Alive store moment) low = go_if (eqb store s) _ low
-  ask_goes s n d (Beat store moment beat) low = go_if (eqb store s) _ low
-  ask_goes s n d (Rule moment json) low = tt
-  ask_goes s n d (Unrule moment group id) low = tt
-  ask_goes s n d (Check moment region) low = tt
-  ask_goes s n d (Patrol moment workers) low = tt
-  ask_goes s n d (Schedule moment) low = tt
-  ask_goes s n d (Ctl moment words) low = tt
-  ask_goes s n d (Term term moment) low = tt
-  ask_goes s n d Retire low = tt
+  ask_goes s n d request low = by_asker d request (λ who. GoOf (of_store s (asked_by n d request who))) (λ t is above. go_if (eqb t s) _ low) tt
 
   goes_of : (s n : ℕ) (act : Act) → IsLawful drivers clients act → GoOf (of_store s (own_of n act))
   goes_of s n (Ask d request) lawful = ask_goes s n d request (driver_low drivers clients d lawful.0.low lawful.0.high)
@@ -406,17 +356,7 @@ abbrev IsSpeaker : Option Actor → Type 0
 IsSpeaker o = AllByRecursion (λ (s : ℕ). 0 < s) (store_by o)
 
 ask_speaks : (d : ℕ) (request : Request) → IsAsked request → IsSpeaker (Some (asker d request))
-ask_speaks d (Hello store moment address labels) asked = (asked.0.id.some, tt)
-ask_speaks d (Alive store moment) asked = (asked.id.some, tt)
-ask_speaks d (Beat store moment beat) asked = (asked.0.id.some, tt)
-ask_speaks d (Rule moment json) asked = tt
-ask_speaks d (Unrule moment group id) asked = tt
-ask_speaks d (Check moment region) asked = tt
-ask_speaks d (Patrol moment workers) asked = tt
-ask_speaks d (Schedule moment) asked = tt
-ask_speaks d (Ctl moment words) asked = tt
-ask_speaks d (Term term moment) asked = tt
-ask_speaks d Retire asked = tt
+ask_speaks d request asked = by_asker d request (λ who. IsSpeaker (Some who)) (λ s is above. (above asked, tt)) tt
 
 speaks : (drivers clients : ℕ) (act : Act) → IsLawful drivers clients act → IsFormed act → IsSpeaker (actor_in act)
 speaks drivers clients (Ask d request) lawful formed = ask_speaks d request formed
