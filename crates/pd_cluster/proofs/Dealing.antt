@@ -1,5 +1,5 @@
 -- What is dealt out, line by line, is the lines of each actor.
-use Rattle.std.proofs.Common.{◌≡◌, ◌⊎◌, inl, inr, ℕ, ◌+◌, ◌-◌, ◌<◌, ◌≤◌, zero, suc, Bool, true, false, cond, eqb, List, [], ◌∷◌, ◌++◌, length, map, get_or, set, take, refl, sym, ap, subst, ◌∙◌, arith, append_assoc, Result, Ok, Err, Option, Some, None}
+use Rattle.std.proofs.Common.{◌≡◌, ◌⊎◌, inl, inr, ℕ, ◌+◌, ◌-◌, ◌<◌, ◌≤◌, zero, suc, Bool, cond, eqb, List, [], ◌∷◌, ◌++◌, length, map, get_or, set, take, refl, sym, ap, subst, ◌∙◌, arith, Result, Ok, Err, Option, Some, None}
 use Rattle.std.specs.Prelude.{Contains, MatchResult, flat_map, replicate}
 use Rattle.std.specs.List.{cons_option, filter_map}
 use Rattle.std.specs.List.Retain.{DiffersFromLast, IsFiltered}

@@ -1,16 +1,16 @@
 -- Each line of a script is one actor's, and what the runner is handed are the lines of all actors.
-use Rattle.std.proofs.Common.{◌≡◌, ◌⊎◌, ℕ, ◌+◌, ◌<◌, ◌≤◌, zero, suc, Bool, true, false, cond, eqb, List, [], ◌∷◌, ◌++◌, length, map, get_or, filter, refl, sym, ap, subst, ◌∙◌, arith, Option, Some, None}
+use Rattle.std.proofs.Common.{◌≡◌, ℕ, ◌<◌, ◌≤◌, zero, suc, Bool, true, false, cond, eqb, List, [], ◌∷◌, ◌++◌, length, map, get_or, filter, refl, sym, ap, subst, ◌∙◌, arith, Option, Some, None}
 use Rattle.std.specs.Prelude.{◌==◌, All, AllPairs, Contains, flat_map}
-use Rattle.std.specs.List.{AllByRecursion, cons_option, filter_map}
+use Rattle.std.specs.List.{AllByRecursion, cons_option}
 use Rattle.std.specs.List.Sorted.{IsStrictlyIncreasing}
 use Rattle.std.specs.Vec.{vec_items}
 use Rattle.std.proofs.lemmas.Bool.{eqb-true}
-use Rattle.std.proofs.lemmas.List.{append-nil, append_assoc, get_or-map, get_or_default, length-map}
+use Rattle.std.proofs.lemmas.List.{append-nil, append_assoc, get_or_default}
 use Rattle.std.proofs.lemmas.List.Elements.{All-append, All-contains, All-from_recursion, Contains-get_or, Contains-append_left, Contains-append_right, recursion_from_All}
 use Rattle.std.proofs.lemmas.List.Kept.{AllPairs-from_increasing}
 use mathlib.Core.Option.{some, none}
 use lib.ListN.{get_elem?}
-use Rattle.pd_turn.specs.Turns.{Among, AreApart}
+use Rattle.pd_turn.specs.Turns.{AreApart}
 use Rattle.pd_types.specs.declared.oracle.Actor.{Actor}
 use Rattle.pd_types.specs.declared.oracle.Actor.TheVariants.{Driver as ByDriver, Client as ByClient, Store as ByStore}
 use Rattle.pd_types.specs.declared.request.Request.{Request}
@@ -31,14 +31,12 @@ use Rattle.pd_run.specs.declared.line.DriverLine.{DriverLine}
 use Rattle.pd_run.specs.declared.line.StoreLine.{StoreLine}
 use Rattle.pd_run.specs.declared.line.StoreLines.{StoreLines}
 use Rattle.pd_run.specs.declared.line.Tasks.{Tasks}
-use Rattle.pd_run.specs.Runs.{lines_of}
+use Rattle.pd_run.specs.Runs.{AnswersTasks, Run, lines_of}
 use Rattle.pd_run.specs.Tasks.{AreTasks, GoesTo}
 use Rattle.pd_cluster.specs.Dealing.{Deals, HasDealtNothing, HasPlace}
 use Rattle.pd_cluster.specs.Replay.{setup_of}
-use Rattle.pd_cluster.specs.RunLines.{AreActing, AreOf, AreShared, IsActed, IsAmong, asked_by, ids_of, is_actor, lines_by, lines_of_clients, lines_of_driver, lines_of_store, of_client, of_driver, of_store, own_of, script_line_of_client, script_line_of_driver, script_line_of_store}
+use Rattle.pd_cluster.specs.RunLines.{AnswersScript, AreActing, AreOf, AreShared, IsActed, IsAmong, asked_by, ids_of, lines_by, lines_of_clients, lines_of_driver, lines_of_store, lines_of_stores, of_client, of_driver, of_store, own_of, script_line_of_client, script_line_of_driver, script_line_of_store}
 use Rattle.pd_cluster.specs.declared.run_lines.Dealt.{Dealt}
-use Rattle.pd_cluster.specs.declared.run_lines.Own.{Own}
-use Rattle.pd_cluster.specs.declared.run_lines.Own.TheVariants.{Driver as OfDriver, Client as OfClient, Store as OfStore, Nobody}
 use Rattle.pd_cluster.proofs.Dealing.{IsDealt, IsFor, begins_so, deals_more, drivers_length, has_place, ids_are, same_ids}
 use Rattle.pd_cluster.proofs.Histories.{all_asked}
 
@@ -405,3 +403,15 @@ walk_tasks script lawful dealt rest over walked =
       within = All-from_recursion (λ (s : StoreLines). All (GoesTo script.drivers) s.lines.items) dealt.tasks.stores.items
           (all_stores (All (GoesTo script.drivers)) (λ (s : ℕ). lines_of_store s script.lines) (λ s. All-from_recursion (GoesTo script.drivers) (lines_of_store s script.lines) (go_all script.drivers script.clients s script.lines each)) dealt.tasks.stores.items ids are.stores_are);
     }
+
+-- THE ANSWERS: those of a run that was handed these lines are to the script's own lines
+pub answers_script : (script : Script) (tasks : Tasks) (run : Run) → AreOf script tasks → run.oracle.setup ≡ setup_of script
+    → AnswersTasks (map vec_items tasks.drivers.items) tasks.clients.items (map lines_of tasks.stores.items) run → AnswersScript script run
+answers_script script tasks run are setup answered = record {
+  setup = setup;
+  stores = ids_of tasks;
+  acting = are.acting;
+  answered = subst (λ (ds : List (List DriverLine)). AnswersTasks ds (lines_of_clients script.lines) (lines_of_stores (ids_of tasks) script) run) are.drivers
+      (subst (λ (cs : List ClientLine). AnswersTasks (map vec_items tasks.drivers.items) cs (lines_of_stores (ids_of tasks) script) run) are.clients
+      (subst (λ (ss : List (ℕ × List StoreLine)). AnswersTasks (map vec_items tasks.drivers.items) tasks.clients.items ss run) are.stores answered));
+}
