@@ -9,8 +9,8 @@ use sched_api::{Bench, Scheduler};
 use std::alloc::Global;
 use std::test::Fail;
 
-// The program's benches.
-fn benches(alloc: Global) -> Result<Vec<Bench>, NoMemory> {
+/// The program's benches.
+pub fn benches(alloc: Global) -> Result<Vec<Bench>, NoMemory> {
     let mut benches = Vec::new(alloc);
     for _ in 0..MAX_DRIVERS {
         let leaders: Box<dyn Scheduler + Send> = Box::new(alloc, BalanceLeader::new(alloc)?)?;
@@ -21,7 +21,7 @@ fn benches(alloc: Global) -> Result<Vec<Bench>, NoMemory> {
 }
 
 // Worked rows. In each line an act stands in front of `>` and its answer.
-const ROWS: [&str; 10] = [
+pub const ROWS: [&str; 10] = [
     // Heartbeats that are stale and that overlap.
     r#"lead 1 1000 > won term 1 lo 1000 hi 4000
 beat 1 1 1000 7 - 40 1 6 11 11:1:v > accepted removed 0 none

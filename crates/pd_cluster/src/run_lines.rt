@@ -1,142 +1,207 @@
-// What the lines of a script ask of drivers, of clients and of stores in `run`.
+// Whose line is whose in `run`, and what it asks.
+ghost use Rattle.std.specs.Prelude.{◌≡◌, [], IfOk, OnOk, map, replicate};
+ghost use Rattle.std.specs.Vec.{vec_items};
+ghost use Rattle.pd_cluster.specs.Dealing.{Deals, HasDealtNothing, HasPlace, without_lines};
+ghost use Rattle.pd_cluster.specs.Replay.{setup_of};
+ghost use Rattle.pd_cluster.specs.RunLines.{AreActing, AreOf, asked_by, own_of};
+ghost use Rattle.pd_run.specs.Runs.{lines_of};
+ghost use Rattle.pd_run.specs.Tasks.{AreTasks};
+ghost use Rattle.pd_script.specs.Lawful.{IsLawfulScript};
+ghost use Rattle.pd_script.specs.Scripts.{asker};
+ghost use Rattle.pd_script.specs.declared.script.Mode.TheVariants.{Run as OnThreads};
+
 use pd_run::{DriverLine, DriverTask, StoreLine, StoreLines, StoreTask, Tasks};
 use pd_script::{Act, Line, Script, asker};
 use pd_types::{Actor, NoMemory, Request};
 use std::alloc::Global;
 use tso_run::{ClientAsk, ClientLine, DriverAsk};
 
-// The place of a store among those that act, by rising ids, or the place where it belongs.
-fn place_of(stores: &[StoreLines], store: u64) -> Result<usize, usize> {
-    stores.binary_search_by_key(&store, |lines| lines.store)
+/// Whose line it is, and what it asks.
+#[derive(Drop)]
+pub enum Own {
+    Driver(u8, DriverLine),
+    Client(ClientLine),
+    Store(u64, StoreLine),
+    Nobody,
 }
 
-// Adds a store without lines, where it isn't there yet.
-fn enter(alloc: Global, stores: &mut Vec<StoreLines>, store: u64) -> Result<(), NoMemory> {
-    if let Err(place) = place_of(stores, store) {
-        let lines = Vec::new(alloc);
-        stores.insert(place, StoreLines { store, lines })?;
+// A line that asks something of the oracle.
+fn to_oracle(number: u32, driver: u8, ask: DriverAsk) -> Own
+    ensures value { result ≡ Own.Driver driver (record { number = number; task = DriverTask.Oracle ask }) }
+{
+    let task = DriverTask::Oracle(ask);
+    Own::Driver(driver, DriverLine { number, task })
+}
+
+// A line of a client.
+fn by_client(number: u32, client: u8, ask: ClientAsk) -> Own
+    ensures value { result ≡ Own.Client (record { number = number; client = client; ask = ask }) }
+{
+    Own::Client(ClientLine {
+        number,
+        client,
+        ask,
+    })
+}
+
+// A line of a store.
+fn by_store(number: u32, store: u64, driver: u8, task: StoreTask) -> Own
+    ensures value { result ≡ Own.Store store (record { number = number; driver = driver; task = task }) }
+{
+    Own::Store(
+        store,
+        StoreLine {
+            number,
+            driver,
+            task,
+        },
+    )
+}
+
+// A line that asks something of a driver's cluster.
+fn to_cluster(number: u32, driver: u8, request: Request) -> Own
+    ensures value { result ≡ asked_by number driver request (asker driver request) }
+{
+    match asker(driver, &request) {
+        Actor::Store(store) => by_store(number, store, driver, StoreTask::Ask(request)),
+        Actor::Driver(_) | Actor::Client(_) => {
+            let task = DriverTask::Cluster(request);
+            Own::Driver(driver, DriverLine { number, task })
+        }
     }
-    Ok(())
 }
 
-// The stores that act in these lines, by rising ids, and no line of theirs.
-fn acting(alloc: Global, lines: &[Line]) -> Result<Vec<StoreLines>, NoMemory> {
+// Whose the line with this number is. A `cell` line is nobody's, and no single step stands in `run`.
+fn own_of(number: u32, act: Act) -> Own
+    ensures value { result ≡ own_of number act }
+{
+    match act {
+        Act::Lead { driver, now } => to_oracle(number, driver, DriverAsk::Lead { now }),
+        Act::Tick { driver, now } => to_oracle(number, driver, DriverAsk::Tick { now }),
+        Act::Resign { driver } => to_oracle(number, driver, DriverAsk::Resign),
+        Act::Take { client, driver, n } => {
+            by_client(number, client, ClientAsk::Take { driver, n })
+        }
+        Act::Tell { client, to } => by_client(number, client, ClientAsk::Tell { to }),
+        Act::Hear { client } => by_client(number, client, ClientAsk::Hear),
+        Act::Ask { driver, request } => to_cluster(number, driver, request),
+        Act::Pop { store, driver } => by_store(number, store, driver, StoreTask::Pop),
+        Act::Cell { .. } => Own::Nobody,
+        Act::Read { .. } | Act::Campaign { .. } | Act::Save { .. } => Own::Nobody,
+        Act::Raise { .. } | Act::Publish { .. } | Act::Probe { .. } => Own::Nobody,
+        Act::Look { .. } | Act::Arm { .. } | Act::Draw { .. } => Own::Nobody,
+    }
+}
+
+// The stores that act in these lines, by rising ids.
+fn acting(alloc: Global, lines: &[Line]) -> Result<Vec<u64>, NoMemory>
+    ensures acting { IfOk result (λ stores. AreActing lines.now stores.items) }
+{
     let mut stores = Vec::new(alloc);
     for line in lines {
         if let Some(Actor::Store(store)) = line.actor {
-            enter(alloc, &mut stores, store)?;
+            stores.push(store)?;
         }
+    }
+    stores.sort()?;
+    stores.dedup();
+    Ok(stores)
+}
+
+// So many empty lists.
+fn idle_drivers(alloc: Global, drivers: u8) -> Result<Vec<Vec<DriverLine>>, NoMemory>
+    ensures value { IfOk result (λ lists. map vec_items lists.items ≡ replicate drivers []) }
+{
+    let mut lists = Vec::new(alloc);
+    for _driver in 0..drivers {
+        lists.push(Vec::new(alloc))?;
+    }
+    Ok(lists)
+}
+
+// These stores, with no lines.
+fn idle_stores(alloc: Global, ids: &[u64]) -> Result<Vec<StoreLines>, NoMemory>
+    ensures value { IfOk result (λ stores. map lines_of stores.items ≡ map without_lines ids.now) }
+{
+    let mut stores = Vec::new(alloc);
+    for id in ids {
+        let lines = Vec::new(alloc);
+        stores.push(StoreLines { store: *id, lines })?;
     }
     Ok(stores)
 }
 
-// The lines of so many drivers, none so far.
-fn idle(alloc: Global, drivers: u8) -> Result<Vec<Vec<DriverLine>>, NoMemory> {
-    let mut lines = Vec::new(alloc);
-    for _ in 0..drivers {
-        lines.push(Vec::new(alloc))?;
+/// The ids of the stores that act, which rise, and the lines that were dealt out to their actors.
+#[derive(Drop)]
+pub struct Dealt {
+    pub ids: Vec<u64>,
+    pub tasks: Tasks,
+}
+
+impl Dealt {
+    // Nothing was dealt out to so many drivers and to these stores.
+    fn new(alloc: Global, drivers: u8, ids: Vec<u64>) -> Result<Dealt, NoMemory>
+        ensures ids { IfOk result (λ dealt. dealt.ids.items ≡ ids.items) }
+        ensures none { IfOk result (HasDealtNothing drivers) }
+    {
+        let tasks = Tasks {
+            drivers: idle_drivers(alloc, drivers)?,
+            clients: Vec::new(alloc),
+            stores: idle_stores(alloc, &ids)?,
+        };
+        Ok(Dealt { ids, tasks })
     }
-    Ok(lines)
-}
 
-// Adds a line of a driver.
-fn to_driver(
-    tasks: &mut Tasks,
-    number: u32,
-    driver: u8,
-    task: DriverTask,
-) -> Result<(), NoMemory> {
-    let place = (driver - 1) as usize;
-    tasks.drivers[place].push(DriverLine { number, task })?;
-    Ok(())
-}
-
-// Adds a line of a store.
-fn to_store(tasks: &mut Tasks, store: u64, line: StoreLine) -> Result<(), NoMemory> {
-    if let Ok(place) = place_of(&tasks.stores, store) {
-        tasks.stores[place].lines.push(line)?;
+    // Gives a driver one line more.
+    fn to_driver(&mut self, driver: u8, line: DriverLine) -> Result<(), NoMemory>
+        requires place { HasPlace self.old (Own.Driver driver line) }
+        ensures ok { OnOk result (Deals (Own.Driver driver line) self.old self.new) }
+    {
+        let place = (driver - 1) as usize;
+        self.tasks.drivers[place].push(line)?;
+        Ok(())
     }
-    Ok(())
-}
 
-// Adds a line that asks something of a driver's cluster.
-fn to_cluster(
-    tasks: &mut Tasks,
-    number: u32,
-    driver: u8,
-    request: Request,
-) -> Result<(), NoMemory> {
-    match asker(driver, &request) {
-        Actor::Store(store) => {
-            let task = StoreTask::Ask(request);
-            let line = StoreLine {
-                number,
-                driver,
-                task,
-            };
-            to_store(tasks, store, line)
-        }
-        _ => to_driver(tasks, number, driver, DriverTask::Cluster(request)),
+    // Gives a store one line more.
+    fn to_store(&mut self, store: u64, line: StoreLine) -> Result<(), NoMemory>
+        requires place { HasPlace self.old (Own.Store store line) }
+        ensures ok { OnOk result (Deals (Own.Store store line) self.old self.new) }
+    {
+        let Ok(place) = self.ids.binary_search(&store) else {
+            unreachable!()
+        };
+        self.tasks.stores[place].lines.push(line)?;
+        Ok(())
     }
-}
 
-// Adds a line of a client.
-fn to_client(
-    tasks: &mut Tasks,
-    number: u32,
-    client: u8,
-    ask: ClientAsk,
-) -> Result<(), NoMemory> {
-    tasks.clients.push(ClientLine {
-        number,
-        client,
-        ask,
-    })?;
-    Ok(())
-}
-
-// Gives a line to its actor. No single step stands in `run`, and a `cell` line is nobody's.
-fn give(tasks: &mut Tasks, line: Line) -> Result<(), NoMemory> {
-    let Line { number, act, .. } = line;
-    match act {
-        Act::Lead { driver, now } => {
-            to_driver(tasks, number, driver, DriverTask::Oracle(DriverAsk::Lead { now }))
+    // Gives a line to its actor, behind those that it has.
+    fn deal(&mut self, own: Own) -> Result<(), NoMemory>
+        requires place { HasPlace self.old own }
+        ensures ok { OnOk result (Deals own self.old self.new) }
+    {
+        match own {
+            Own::Driver(driver, line) => self.to_driver(driver, line),
+            Own::Client(line) => {
+                self.tasks.clients.push(line)?;
+                Ok(())
+            }
+            Own::Store(store, line) => self.to_store(store, line),
+            Own::Nobody => Ok(()),
         }
-        Act::Tick { driver, now } => {
-            to_driver(tasks, number, driver, DriverTask::Oracle(DriverAsk::Tick { now }))
-        }
-        Act::Resign { driver } => {
-            to_driver(tasks, number, driver, DriverTask::Oracle(DriverAsk::Resign))
-        }
-        Act::Take { client, driver, n } => {
-            to_client(tasks, number, client, ClientAsk::Take { driver, n })
-        }
-        Act::Tell { client, to } => to_client(tasks, number, client, ClientAsk::Tell { to }),
-        Act::Hear { client } => to_client(tasks, number, client, ClientAsk::Hear),
-        Act::Ask { driver, request } => to_cluster(tasks, number, driver, request),
-        Act::Pop { store, driver } => {
-            let task = StoreTask::Pop;
-            let line = StoreLine {
-                number,
-                driver,
-                task,
-            };
-            to_store(tasks, store, line)
-        }
-        _ => Ok(()),
     }
 }
 
 /// The lines of all actors of a script.
-pub fn tasks_of(alloc: Global, script: Script) -> Result<Tasks, NoMemory> {
+pub fn tasks_of(alloc: Global, script: Script) -> Result<Tasks, NoMemory>
+    requires lawful { IsLawfulScript OnThreads script }
+    ensures value { IfOk result (AreOf script) }
+    ensures tasks { IfOk result (AreTasks (setup_of script)) }
+{
     let Script { drivers, lines, .. } = script;
-    let mut tasks = Tasks {
-        drivers: idle(alloc, drivers)?,
-        clients: Vec::new(alloc),
-        stores: acting(alloc, lines.as_slice())?,
-    };
+    let ids = acting(alloc, lines.as_slice())?;
+    let mut dealt = Dealt::new(alloc, drivers, ids)?;
     for line in lines.into_vec() {
-        give(&mut tasks, line)?;
+        dealt.deal(own_of(line.number, line.act))?;
     }
-    Ok(tasks)
+    Ok(dealt.tasks)
 }

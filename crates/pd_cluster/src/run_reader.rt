@@ -1,20 +1,42 @@
 // A reader of what `run` prints, which says whether it is the text of a lawful run of a script without a `cell` line. It knows the
 // rules in plain words, and nothing of the program.
-use std::alloc::Global;
-use std::test::Fail;
+use crate::journal_reader::{Journals, behind};
+use std::alloc::{AllocError, AllocFailed, Global};
+
+/// Why a text isn't read.
+#[derive(Debug, Drop)]
+pub struct Unread(pub &'static str);
+
+impl From<AllocError> for Unread {
+    fn from(_: AllocError) -> Self {
+        Unread("out of memory")
+    }
+}
+
+impl<T: Drop> From<AllocFailed<T>> for Unread {
+    fn from(_: AllocFailed<T>) -> Self {
+        Unread("out of memory")
+    }
+}
 
 // Timestamps of a millisecond.
 const MS: u64 = 262_144;
 
-// The first word of a line that is no number, and its numbers.
+// The first millisecond that no window reaches.
+const CLOCK_END: u64 = 35_184_372_088_832;
+
+/// What tells that a command of pd-ctl gave the driver's term up.
+pub const RESIGNED: &str = "{\"done\":\"Resigned\"}";
+
+/// The first word of a line that is no number, and its numbers.
 #[derive(Drop)]
-struct Words<'a> {
-    word: &'a str,
+pub struct Words<'a> {
+    pub word: &'a str,
     numbers: Vec<u64>,
 }
 
 impl<'a> Words<'a> {
-    fn of(alloc: Global, line: &'a str) -> Result<Words<'a>, Fail> {
+    fn of(alloc: Global, line: &'a str) -> Result<Words<'a>, Unread> {
         let mut numbers = Vec::new(alloc);
         for word in line.split(' ') {
             if let Ok(number) = word.parse::<u64>() {
@@ -28,20 +50,23 @@ impl<'a> Words<'a> {
         })
     }
 
-    // The number at a place, 0 where there is none.
-    fn at(&self, place: usize) -> u64 {
+    /// The number at a place, 0 where there is none.
+    pub fn at(&self, place: usize) -> u64 {
         self.numbers.get(place).copied().unwrap_or(0)
     }
 }
 
-// An answer with its line of the script, and the pair of term and timestamp that a client had seen before it.
+/// An answer with its line of the script, the driver whose oracle or cluster is asked by a driver or a store, what is told behind the
+/// line's number, and the pair of term and timestamp that a client had seen before it.
 #[derive(Drop)]
-struct Answer<'a> {
-    section: u8,
-    actor: u64,
-    line: u64,
-    asked: Words<'a>,
-    said: Words<'a>,
+pub struct Answer<'a> {
+    pub section: u8,
+    pub actor: u64,
+    pub line: u64,
+    pub driver: u64,
+    pub asked: Words<'a>,
+    pub said: Words<'a>,
+    pub text: &'a str,
     seen: (u64, u64),
 }
 
@@ -50,11 +75,22 @@ const WINDOWS: u8 = 0;
 
 const DRIVERS: u8 = 1;
 
-const CLIENTS: u8 = 2;
+pub const CLIENTS: u8 = 2;
 
-const POST: u8 = 3;
+pub const STORES: u8 = 3;
+
+const JOURNALS: u8 = 4;
+
+const META: u8 = 5;
+
+const POST: u8 = 6;
 
 impl<'a> Answer<'a> {
+    /// The driver's oracle is asked, and not its cluster.
+    pub fn is_oracle(&self) -> bool {
+        self.section == DRIVERS && matches!(self.asked.word, "lead" | "tick" | "resign")
+    }
+
     // The count of a draw at this driver that was answered `got` or `again`, else 0.
     fn drawn_at(&self, driver: u64) -> u64 {
         let drew = self.said.word == "got" || self.said.word == "again";
@@ -97,11 +133,12 @@ struct Entry<'a> {
     what: &'a str,
 }
 
-// What was printed: `window T D LO HI` for each window, the answers, and the post.
+/// What was printed: `window T D LO HI` for each window, the answers, the journals of the clusters and of the metadata, and the post.
 #[derive(Drop)]
 pub struct Printed<'a> {
     windows: Vec<Words<'a>>,
     answers: Vec<Answer<'a>>,
+    journals: Journals<'a>,
     post: Vec<Entry<'a>>,
 }
 
@@ -110,16 +147,41 @@ fn section(word: &str) -> Option<u8> {
     match word {
         "driver" => Some(DRIVERS),
         "client" => Some(CLIENTS),
+        "store" => Some(STORES),
+        "journal" => Some(JOURNALS),
+        "meta" => Some(META),
         "post" => Some(POST),
         _ => None,
+    }
+}
+
+// A head may stand behind another one: sections in their order, drivers, clients and stores by rising numbers, and a journal for each
+// driver from the first one on.
+fn may_follow(before: (u8, u64), head: (u8, u64)) -> bool {
+    match head.0 {
+        JOURNALS if before.0 != JOURNALS => head.1 == 1,
+        JOURNALS => head.1 == before.1.saturating_add(1),
+        META => before.0 == JOURNALS,
+        POST => before.0 == META,
+        _ => before < head,
     }
 }
 
 // The section in which a line of the script is answered.
 fn section_of(word: &str) -> u8 {
     match word {
-        "lead" | "tick" | "resign" => DRIVERS,
-        _ => CLIENTS,
+        "take" | "tell" | "hear" => CLIENTS,
+        "hello" | "alive" | "beat" | "pop" => STORES,
+        _ => DRIVERS,
+    }
+}
+
+// The driver that a line names, 0 where it names none.
+fn named(asked: &Words) -> u64 {
+    match asked.word {
+        "tell" | "hear" => 0,
+        word if section_of(word) == DRIVERS => asked.at(0),
+        _ => asked.at(1),
     }
 }
 
@@ -127,71 +189,102 @@ fn section_of(word: &str) -> u8 {
 fn read_answer<'a>(
     alloc: Global,
     script: &'a str,
-    said: Words<'a>,
-    section: u8,
-    actor: u64,
+    line: &'a str,
+    head: (u8, u64),
     last: Option<&Answer<'a>>,
-) -> Result<Answer<'a>, Fail> {
-    let line = said.at(0);
-    let Some(asked) = script.lines().nth(line.saturating_sub(1) as usize) else {
-        return Err(Fail::new("no such line"));
+) -> Result<Answer<'a>, Unread> {
+    let said = Words::of(alloc, line)?;
+    let (section, actor) = head;
+    let number = said.at(0);
+    let Some(asked) = script.lines().nth(number.saturating_sub(1) as usize) else {
+        return Err(Unread("no such line"));
     };
     let asked = Words::of(alloc, asked)?;
     if asked.at(0) != actor || section_of(asked.word) != section {
-        return Err(Fail::new("another's line"));
+        return Err(Unread("another's line"));
     }
     let mut seen = (0, 0);
     if let Some(last) = last {
         if last.section == section && last.actor == actor {
-            if last.line >= line {
-                return Err(Fail::new("lines out of order"));
+            if last.line >= number {
+                return Err(Unread("lines out of order"));
             }
             seen = last.seen_after();
         }
     }
+    let driver = if section == CLIENTS { 0 } else { named(&asked) };
     Ok(Answer {
         section,
         actor,
-        line,
+        line: number,
+        driver,
         asked,
         said,
+        text: behind(line, 1),
         seen,
     })
 }
 
 impl<'a> Printed<'a> {
     /// Reads the sections in their order, each line of the script once, in its actor's section.
-    pub fn read(alloc: Global, script: &'a str, text: &'a str) -> Result<Printed<'a>, Fail> {
-        let mut windows = Vec::new(alloc);
-        let mut answers: Vec<Answer<'a>> = Vec::new(alloc);
-        let mut post = Vec::new(alloc);
+    pub fn read(alloc: Global, script: &'a str, text: &'a str) -> Result<Printed<'a>, Unread> {
+        let mut printed = Printed {
+            windows: Vec::new(alloc),
+            answers: Vec::new(alloc),
+            journals: Journals::new(alloc),
+            post: Vec::new(alloc),
+        };
         let mut head = (WINDOWS, 0);
+        let mut journals = 0;
         for line in text.lines() {
             let words = Words::of(alloc, line)?;
-            if let Some(next) = section(words.word) {
-                let number = words.at(0);
-                if next < head.0 || (next == head.0 && number <= head.1) {
-                    return Err(Fail::new("sections out of order"));
+            let next = section(words.word).filter(|_| line.starts_with(words.word));
+            if let Some(next) = next {
+                let next = (next, words.at(0));
+                if !may_follow(head, next) {
+                    return Err(Unread("sections out of order"));
                 }
-                head = (next, number);
-            } else if head.0 == WINDOWS {
-                windows.push(words)?;
-            } else if head.0 == POST {
-                let what = line.split(' ').nth(3).unwrap_or("");
-                post.push(Entry { words, what })?;
+                head = next;
+                if head.0 == JOURNALS {
+                    journals = head.1;
+                }
             } else {
-                let said = read_answer(alloc, script, words, head.0, head.1, answers.last())?;
-                answers.push(said)?;
+                printed.read_line(alloc, script, line, head)?;
             }
         }
-        if answers.len() != script.lines().count() || head.0 != POST {
-            return Err(Fail::new("a line or a section is missing"));
+        let drivers = printed.answers.iter().map(|one| named(&one.asked)).max();
+        if printed.answers.len() != script.lines().count() || head.0 != POST {
+            return Err(Unread("a line or a section is missing"));
         }
-        Ok(Printed {
-            windows,
-            answers,
-            post,
-        })
+        if journals != drivers.unwrap_or(1).max(1) {
+            return Err(Unread("a driver without a journal"));
+        }
+        Ok(printed)
+    }
+
+    // Reads a line behind this head.
+    fn read_line(
+        &mut self,
+        alloc: Global,
+        script: &'a str,
+        line: &'a str,
+        head: (u8, u64),
+    ) -> Result<(), Unread> {
+        match head.0 {
+            WINDOWS => self.windows.push(Words::of(alloc, line)?)?,
+            JOURNALS => self.journals.read_entry(head.1, line)?,
+            META => self.journals.read_call(line)?,
+            POST => {
+                let words = Words::of(alloc, line)?;
+                let what = line.split(' ').nth(3).unwrap_or("");
+                self.post.push(Entry { words, what })?;
+            }
+            _ => {
+                let one = read_answer(alloc, script, line, head, self.answers.last())?;
+                self.answers.push(one)?;
+            }
+        }
+        Ok(())
     }
 
     // The windows follow one another, each of a later term and behind the end of the one before.
@@ -264,6 +357,12 @@ impl<'a> Printed<'a> {
                 .any(|w| w.at(0) == term && w.at(1) == one.actor)
     }
 
+    // The moment or the end of a window is so late that no window of 3 seconds fits behind it.
+    fn is_past(&self, one: &Answer) -> bool {
+        let late = |ms: u64| ms.saturating_add(3001) >= CLOCK_END;
+        late(one.asked.at(1).saturating_sub(1)) || self.windows.iter().any(|w| late(w.at(3)))
+    }
+
     // A driver's answers, one after the other.
     fn drives(&self, driver: u64) -> bool {
         let (mut holds, mut hi, mut start, mut term) = (false, 0, 0u64, 0);
@@ -272,11 +371,13 @@ impl<'a> Printed<'a> {
                 continue;
             }
             let lawful = match one.said.word {
+                word if !one.is_oracle() => word != RESIGNED || holds,
                 "won" => self.won(one),
                 "moved" | "idle" => holds && self.ticked(one, hi, start),
                 "resigned" => holds,
                 "not-leading" => !holds,
                 "beaten" | "lost" => self.found(one, term),
+                "clock-range" => self.is_past(one),
                 _ => false,
             };
             if !lawful {
@@ -286,7 +387,7 @@ impl<'a> Printed<'a> {
             match one.said.word {
                 "won" => (holds, hi, term) = (true, one.said.at(3), one.said.at(1)),
                 "moved" => hi = one.said.at(2),
-                "lost" | "resigned" => holds = false,
+                "lost" | "resigned" | RESIGNED => holds = false,
                 _ => {}
             }
         }
@@ -354,7 +455,7 @@ impl<'a> Printed<'a> {
         let gave_up = self.answers.iter().any(|other| {
             let word = other.said.word;
             let own = other.section == DRIVERS && other.actor == driver;
-            own && (word == "lost" || word == "resigned")
+            own && matches!(word, "lost" | "resigned" | RESIGNED)
         });
         !led || gave_up
     }
@@ -472,7 +573,10 @@ impl<'a> Printed<'a> {
                 return false;
             }
         }
-        self.windows_follow() && self.apart() && self.post_keeps()
+        self.windows_follow()
+            && self.apart()
+            && self.post_keeps()
+            && self.journals.are_lawful(&self.answers)
     }
 }
 

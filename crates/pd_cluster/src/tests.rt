@@ -62,7 +62,7 @@ fn expect<R: Threads + Wait + Sync + Abort>(
 }
 
 // Worked rows. In each line an act stands in front of `>` and its answer.
-const ROWS: [&str; 31] = [
+pub const ROWS: [&str; 31] = [
     "\
 lead 1 1000 > won term 1 lo 1000 hi 4000
 hello 1 1 1000 a1 > store put

@@ -280,7 +280,13 @@ fn write_out<K: Sink>(response: &Response, sink: &mut K) -> Status
 /// drivers' benches of schedulers, the first of which is the first driver's. `run` alone starts
 /// threads and asks the gate: each line is answered once the gate lets its actor, or was asked
 /// 1,000,000 times, and the gate hears of the answer.
-pub fn pd_top<R: Threads + Wait + Sync, S: Source, K: Sink, B: Seated + Drop + Send, G: Gate + Sync>(
+pub fn pd_top<
+    R: Threads + Wait + Sync,
+    S: Source,
+    K: Sink,
+    B: Seated + Drop + Send,
+    G: Gate + Sync,
+>(
     rt: &R,
     alloc: Global,
     words: &[String],

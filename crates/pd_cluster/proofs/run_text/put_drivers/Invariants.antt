@@ -1,6 +1,6 @@
 use Rattle.std.proofs.Common.{◌≡◌, ◌++◌, take}
 use Rattle.std.specs.Prelude.{flat_map, string_bytes}
-use Rattle.tso_run.specs.declared.end.DriverAnswers.{DriverAnswers}
+use Rattle.pd_run.specs.declared.answer.DriverAnswers.{DriverAnswers}
 use Rattle.pd_cluster.specs.RunText.{driver_section}
 use Rattle.pd_cluster.proofs.run_text.put_drivers.Given as goal
 
