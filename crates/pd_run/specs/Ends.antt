@@ -1,6 +1,6 @@
 -- What is known of a cluster once it is closed, beside what the stores did.
-use Rattle.std.specs.Prelude.{◌≡◌, ℕ, ◌+◌, ◌<◌, List, [], ◌∷◌, ◌++◌, All, Contains, map, reverse}
-use Rattle.std.specs.List.{AllZip}
+use Rattle.std.specs.Prelude.{◌≡◌, ℕ, List, [], ◌∷◌, false, zip, All, Contains, map, reverse}
+use Rattle.atomic_table.specs.Seated.{TableId}
 use mathlib.Core.List.{IsPrefix}
 use Rattle.pd_turn.specs.Turns.{TurnValue}
 use Rattle.pd_types.specs.declared.oracle.Actor.TheVariants.{Driver, Store}
@@ -8,14 +8,13 @@ use Rattle.meta_store.specs.Seats.{SeatValue}
 use Rattle.pd_state.specs.Clusters.{ClusterValue}
 use Rattle.pd_state.specs.declared.entry.Entry.{Entry}
 use Rattle.pd_state.specs.Legal.{IsLegal}
-use Rattle.pd_shared.specs.Kept.{answers_in}
+use Rattle.pd_shared.specs.Kept.{IsKept, answers_in}
 use Rattle.pd_shared.specs.Names.{StreamName}
 use Rattle.pd_shared.specs.Outlets.{OutletValue}
-use Rattle.pd_shared.specs.Shares.{SharedValue, actor_of, actors_of, entries_of}
+use Rattle.pd_shared.specs.Shares.{IsInJournal, ShareValue, SharedValue, actor_of, actors_of, entries_of}
 use Rattle.step_stream.specs.Streams.{EndValue}
-use Rattle.pd_run.specs.Crews.{AreNamed}
-use Rattle.pd_run.specs.Runs.{ArePopped}
-use Rattle.pd_run.specs.Works.{ArePorts, made_at, popped_at, streams_at}
+use Rattle.pd_run.specs.Runs.{ArePopped, StorePart}
+use Rattle.pd_run.specs.Works.{made_at, popped_at}
 use Rattle.pd_run.specs.declared.driving.DriverWork.{DriverWork}
 use Rattle.pd_run.specs.declared.storing.Port.{Port}
 use Rattle.pd_run.specs.declared.storing.StoreWork.{StoreWork}
@@ -33,9 +32,35 @@ LostPorts [] [] [] = Unit {0}
 LostPorts (p ∷ ports) (old ∷ olds) (new ∷ news) = LostPort p old new × LostPorts ports olds news
 LostPorts _ _ _ = ⊥
 
+-- what was taken of the stores for one cluster: its shares, the driver's first, and with each store the end of its stream that popped
+pub record EndsOf {N : Type 0} (share : ShareValue) (olds news : List (StoreWork N)) (shares : List ShareValue) (takers : List (ℕ × EndValue)) : Type 0 where
+  pub ports : List (Port N)
+  pub lost : LostPorts ports olds news
+  pub shares_are : shares ≡ share ∷ map (λ (p : Port N). p.share) ports
+  pub takers_are : takers ≡ zip (map (λ (w : StoreWork N). w.store) olds) (map (λ (p : Port N). p.taker) ports)
+
+-- there is an outlet to this store, of this stream
+abbrev pub HasOutlet : List OutletValue → ℕ → TableId → Type 0
+HasOutlet outlets store stream = (outlet : OutletValue) × Contains outlets outlet × (outlet.store ≡ store) × (outlet.stream ≡ stream)
+
 -- what a store popped stands, in order, at the front of what was pushed into the outlet to it
 abbrev pub IsSettled : List OutletValue → ℕ × EndValue → Type 0
 IsSettled outlets taker = (outlet : OutletValue) × Contains outlets outlet × (outlet.store ≡ taker.0) × IsPrefix taker.1.list outlet.pushed
+
+-- a shared cluster was closed with these shares, and its streams were settled with these ends: its seat and some outlets are kept with it, each share's list is its
+-- actor's entries in the journal, which are all, and what each store popped stands at the front of what was pushed
+pub record IsClosing (meta : TurnValue) (streams : List StreamName) (shared : SharedValue) (shares : List ShareValue) (takers : List (ℕ × EndValue)) (cluster : ClusterValue) (seat : SeatValue) : Type 0 where
+  pub outlets : List OutletValue
+  pub driver : cluster.driver ≡ shared.driver
+  pub alive : cluster.dead ≡ false
+  pub kept : IsKept meta streams cluster seat outlets
+  pub lists : All (IsInJournal cluster.entries) shares
+  pub callers : All (λ (e : Entry). Contains (actors_of shared) e.actor) cluster.entries
+  pub settled : All (IsSettled outlets) takers
+
+-- what a store's worker answered
+abbrev pub part_of : {N : Type 0} → StoreWork N → StorePart
+part_of w = record { store = w.store; answers = w.answers.items }
 
 -- a cluster of one of these drivers that was closed behind the work of these stores: its journal is legal, its seat at the metadata has the answers to its entries;
 -- each store's entries and each store's steps are what the store made and popped by its port to it; and no other store has an entry

@@ -1,4 +1,14 @@
 // What all workers leave.
+ghost use Rattle.std.specs.Prelude.{◌≡◌, ◌<◌, ℕ, false, All, Contains, IfOk, length, map};
+ghost use Rattle.pd_turn.specs.Turns.{AreApart};
+ghost use Rattle.step_stream.specs.Streams.{EndValue};
+ghost use Rattle.pd_shared.specs.Names.{stream_name};
+ghost use Rattle.pd_shared.specs.Outlets.{OutletValue};
+ghost use Rattle.pd_shared.specs.Shares.{AreSharesOf};
+ghost use Rattle.pd_run.specs.Ends.{EndsOf, HasOutlet, IsClosing, IsSettled, part_of};
+ghost use Rattle.pd_run.specs.Runs.{store_part};
+ghost use Rattle.pd_run.specs.declared.storing.StoreWork.{StoreWork};
+
 use crate::answer::{DriverAnswers, StoreAnswers};
 use crate::driving::{DriverWork, Means};
 use crate::storing::{Port, StoreWork};
@@ -23,7 +33,10 @@ fn ends_of<N: ClusterName>(
     alloc: Global,
     share: Share<N>,
     stores: Vec<StoreWork<N>>,
-) -> Result<(Ends<N>, Vec<StoreWork<N>>), NoMemory> {
+) -> Result<(Ends<N>, Vec<StoreWork<N>>), NoMemory>
+    requires ports { All (λ (w : StoreWork N). 0 < length w.ports.items) stores.items }
+    ensures ends { IfOk result (λ r. EndsOf share stores.items r.1.items r.0.shares.items r.0.takers.items) }
+{
     let mut shares = Vec::new(alloc);
     let mut takers = Vec::new(alloc);
     let mut works = Vec::new(alloc);
@@ -39,7 +52,12 @@ fn ends_of<N: ClusterName>(
 }
 
 // Settles the stream to this store.
-fn settle<R: Wait>(rt: &R, givers: &mut Givers, store: u64, taker: Taker) {
+fn settle<R: Wait>(rt: &R, givers: &mut Givers, store: u64, taker: Taker)
+    requires apart { AreApart (map (λ (outlet : OutletValue). outlet.store) givers.old.items) }
+    requires there { HasOutlet givers.old.items store taker.stream }
+    ensures same { givers.new.items ≡ givers.old.items }
+    ensures settled { IsSettled givers.old.items (store, taker) }
+{
     let Some(place) = givers.iter().position(|outlet| outlet.store() == store) else {
         unreachable!()
     };
@@ -57,7 +75,11 @@ fn close<N: ClusterName, R: Wait>(
     rt: &R,
     cluster: SharedCluster<N>,
     ends: Ends<N>,
-) -> Result<Closing, NoMemory> {
+) -> Result<Closing, NoMemory>
+    requires shares { AreSharesOf cluster ends.shares.items }
+    requires named { All (λ (end : ℕ × EndValue). Contains N.streams (stream_name cluster.driver end.0 end.1.stream)) ends.takers.items }
+    ensures closing { IfOk result (λ closing. IsClosing N.meta N.streams cluster ends.shares.items ends.takers.items closing.cluster closing.seat) }
+{
     let Ends { shares, takers } = ends;
     let closed = cluster.close(rt, shares)?;
     let mut givers = closed.givers;
@@ -151,7 +173,10 @@ pub fn driver_parts<N: ClusterName, B: Drop, R: Wait>(
 pub fn store_answers<N: ClusterName>(
     alloc: Global,
     works: Vec<StoreWork<N>>,
-) -> Result<Vec<StoreAnswers>, NoMemory> {
+) -> Result<Vec<StoreAnswers>, NoMemory>
+    ensures fine { IfOk result (λ answers. All (λ (w : StoreWork N). w.failed ≡ false) works.items) }
+    ensures answers { IfOk result (λ answers. map store_part answers.items ≡ map part_of works.items) }
+{
     let mut answers = Vec::new(alloc);
     for work in works {
         if work.failed {
