@@ -6,3 +6,4 @@ pub mod Handing
 pub mod Leading
 pub mod Opening
 pub mod Beginning
+pub mod Taking
