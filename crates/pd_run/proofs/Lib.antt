@@ -7,3 +7,4 @@ pub mod Leading
 pub mod Opening
 pub mod Beginning
 pub mod Taking
+pub mod Settling

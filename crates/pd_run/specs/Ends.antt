@@ -1,5 +1,5 @@
 -- What is known of a cluster once it is closed, beside what the stores did.
-use Rattle.std.specs.Prelude.{◌≡◌, ℕ, List, [], ◌∷◌, false, zip, All, Contains, map, reverse}
+use Rattle.std.specs.Prelude.{◌≡◌, ℕ, ◌<◌, List, [], ◌∷◌, get_or, length, false, zip, All, Contains, map, reverse}
 use Rattle.atomic_table.specs.Seated.{TableId}
 use mathlib.Core.List.{IsPrefix}
 use Rattle.pd_turn.specs.Turns.{TurnValue}
@@ -42,6 +42,11 @@ pub record EndsOf {N : Type 0} (share : ShareValue) (olds news : List (StoreWork
 -- there is an outlet to this store, of this stream
 abbrev pub HasOutlet : List OutletValue → ℕ → TableId → Type 0
 HasOutlet outlets store stream = (outlet : OutletValue) × Contains outlets outlet × (outlet.store ≡ store) × (outlet.stream ≡ stream)
+
+-- the outlet in this place is the one to this store
+pub record IsPlaceOf (outlets : List OutletValue) (store place : ℕ) : Type 0 where
+  pub within : place < length outlets
+  pub there : (any : OutletValue) → (get_or outlets place any).store ≡ store
 
 -- what a store popped stands, in order, at the front of what was pushed into the outlet to it
 abbrev pub IsSettled : List OutletValue → ℕ × EndValue → Type 0

@@ -1,11 +1,11 @@
 // What all workers leave.
-ghost use Rattle.std.specs.Prelude.{◌≡◌, ◌<◌, ℕ, false, All, Contains, IfOk, length, map};
+ghost use Rattle.std.specs.Prelude.{◌≡◌, ◌≢◌, ◌<◌, ℕ, false, All, Contains, IfNone, IfOk, IfSome, length, map};
 ghost use Rattle.pd_turn.specs.Turns.{AreApart};
 ghost use Rattle.step_stream.specs.Streams.{EndValue};
 ghost use Rattle.pd_shared.specs.Names.{stream_name};
 ghost use Rattle.pd_shared.specs.Outlets.{OutletValue};
 ghost use Rattle.pd_shared.specs.Shares.{AreSharesOf};
-ghost use Rattle.pd_run.specs.Ends.{EndsOf, HasOutlet, IsClosing, IsSettled, part_of};
+ghost use Rattle.pd_run.specs.Ends.{EndsOf, HasOutlet, IsClosing, IsPlaceOf, IsSettled, part_of};
 ghost use Rattle.pd_run.specs.Runs.{store_part};
 ghost use Rattle.pd_run.specs.declared.storing.StoreWork.{StoreWork};
 
@@ -13,7 +13,7 @@ use crate::answer::{DriverAnswers, StoreAnswers};
 use crate::driving::{DriverWork, Means};
 use crate::storing::{Port, StoreWork};
 use meta_store::MetaSeat;
-use pd_shared::{ClusterName, Givers, Share, SharedCluster, Shares};
+use pd_shared::{ClusterName, Givers, Outlet, Share, SharedCluster, Shares};
 use pd_state::Cluster;
 use pd_types::NoMemory;
 use std::alloc::Global;
@@ -51,6 +51,19 @@ fn ends_of<N: ClusterName>(
     Ok((Ends { shares, takers }, works))
 }
 
+// The place of the outlet to this store.
+fn place_of(givers: &[Outlet], store: u64) -> Option<usize>
+    ensures place { IfSome result (λ place. IsPlaceOf givers.now store place) }
+    ensures none { IfNone result (All (λ (outlet : OutletValue). outlet.store ≢ store) givers.now) }
+{
+    for (place, outlet) in givers.iter().enumerate() {
+        if outlet.store() == store {
+            return Some(place);
+        }
+    }
+    None
+}
+
 // Settles the stream to this store.
 fn settle<R: Wait>(rt: &R, givers: &mut Givers, store: u64, taker: Taker)
     requires apart { AreApart (map (λ (outlet : OutletValue). outlet.store) givers.old.items) }
@@ -58,7 +71,7 @@ fn settle<R: Wait>(rt: &R, givers: &mut Givers, store: u64, taker: Taker)
     ensures same { givers.new.items ≡ givers.old.items }
     ensures settled { IsSettled givers.old.items (store, taker) }
 {
-    let Some(place) = givers.iter().position(|outlet| outlet.store() == store) else {
+    let Some(place) = place_of(givers, store) else {
         unreachable!()
     };
     givers[place].settle(rt, taker);
