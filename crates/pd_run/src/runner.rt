@@ -1,6 +1,7 @@
 // A run: all drivers, clients and stores answer their lines, each on a thread of its own.
 ghost use Rattle.std.specs.Prelude.{◌≡◌, All, IfOk, OnOk, length, map};
 ghost use Rattle.std.specs.List.{AllZip};
+ghost use Rattle.std.specs.Vec.Iter.{into_iter_items};
 ghost use denote.Param.Send.{IsSync};
 ghost use Rattle.tso_board.specs.Boards.{setup_of};
 ghost use Rattle.tso_run.specs.Lines.{IsCall};
@@ -76,7 +77,9 @@ fn starts_of<B: Drop>(
 }
 
 // The benches that no driver has.
-fn others<B: Drop>(alloc: Global, benches: IntoIter<B>) -> Result<Vec<B>, NoMemory> {
+fn others<B: Drop>(alloc: Global, benches: IntoIter<B>) -> Result<Vec<B>, NoMemory>
+    ensures items { IfOk result (λ others. others.items ≡ into_iter_items benches) }
+{
     let mut others = Vec::new(alloc);
     for bench in benches {
         others.push(bench)?;
