@@ -81,3 +81,8 @@ pub record HaveWorked {N B : Type 0} (seats : B → Seats) (board : Board) (clie
   pub drove : AllZip (DriverWorked seats board) first.drivers.items w.drivers.items
   pub called : AllZip (ClientWorked board w.post clients) first.clients.items w.clients.items
   pub acted : AllZip (StoreWorked first.clusters.items) first.stores.items w.stores.items
+
+-- workers that came from such workers, which began over this board and these streams, by all work on their lines
+pub record CameFrom {N B : Type 0} (name : TableId) (names : List StreamName) (seats : B → Seats) (board : Board) (clients : List ClientLine) (first w : Workers N B) : Type 0 where
+  pub ready : IsReady name names board first
+  pub worked : HaveWorked seats board clients first w

@@ -1,5 +1,5 @@
 -- What is known of a cluster once it is closed, beside what the stores did.
-use Rattle.std.specs.Prelude.{◌≡◌, ℕ, ◌<◌, List, [], ◌∷◌, get_or, length, false, zip, All, Contains, map, reverse}
+use Rattle.std.specs.Prelude.{◌≡◌, ℕ, ◌+◌, ◌<◌, List, [], ◌∷◌, ◌++◌, get_or, length, false, zip, All, Contains, Option, Some, None, map, reverse}
 use Rattle.atomic_table.specs.Seated.{TableId}
 use mathlib.Core.List.{IsPrefix}
 use Rattle.pd_turn.specs.Turns.{TurnValue}
@@ -9,13 +9,15 @@ use Rattle.pd_state.specs.Clusters.{ClusterValue}
 use Rattle.pd_state.specs.declared.entry.Entry.{Entry}
 use Rattle.pd_state.specs.Legal.{IsLegal}
 use Rattle.pd_shared.specs.Kept.{IsKept, answers_in}
-use Rattle.pd_shared.specs.Names.{StreamName}
+use Rattle.pd_shared.specs.Names.{StreamName, stream_name}
 use Rattle.pd_shared.specs.Outlets.{OutletValue}
 use Rattle.pd_shared.specs.Shares.{IsInJournal, ShareValue, SharedValue, actor_of, actors_of, entries_of}
 use Rattle.step_stream.specs.Streams.{EndValue}
-use Rattle.pd_run.specs.Runs.{ArePopped, StorePart}
-use Rattle.pd_run.specs.Works.{made_at, popped_at}
+use Rattle.pd_run.specs.Crews.{AreNamed}
+use Rattle.pd_run.specs.Runs.{ArePopped, DriverPart, StorePart}
+use Rattle.pd_run.specs.Works.{ArePorts, IsPort, made_at, popped_at, streams_at}
 use Rattle.pd_run.specs.declared.driving.DriverWork.{DriverWork}
+use Rattle.pd_run.specs.declared.end.DriverParts.{DriverParts}
 use Rattle.pd_run.specs.declared.storing.Port.{Port}
 use Rattle.pd_run.specs.declared.storing.StoreWork.{StoreWork}
 
@@ -67,18 +69,75 @@ pub record IsClosing (meta : TurnValue) (streams : List StreamName) (shared : Sh
 abbrev pub part_of : {N : Type 0} → StoreWork N → StorePart
 part_of w = record { store = w.store; answers = w.answers.items }
 
--- a cluster of one of these drivers that was closed behind the work of these stores: its journal is legal, its seat at the metadata has the answers to its entries;
--- each store's entries and each store's steps are what the store made and popped by its port to it; and no other store has an entry
-pub record IsClosed {N : Type 0} (meta : TurnValue) (stores : List (StoreWork N)) (cluster : ClusterValue) (seat : SeatValue) : Type 0 where
+-- what a driver's worker answered
+abbrev pub driver_part_of : {N B : Type 0} → DriverWork N B → DriverPart
+driver_part_of w = record { number = w.number; answers = w.answers.items }
+
+-- the bench that a driver hands back, if it had one
+abbrev pub lent : {B : Type 0} → Option B → List B
+lent None = []
+lent (Some bench) = bench ∷ []
+
+-- BEFORE A CLUSTER IS CLOSED
+
+-- the cluster of the driver with this number, which has a share for its driver, by which the driver worked, and one for each of these stores
+pub record IsDriverOfCluster {N B : Type 0} (stores : List ℕ) (number : ℕ) (w : DriverWork N B) (cluster : SharedValue) : Type 0 where
+  pub number_is : w.number ≡ number
+  pub driver : cluster.driver ≡ number
+  pub cluster_is : w.means.share.cluster ≡ cluster
+  pub actor : w.means.share.actor ≡ Driver number
+  pub numbers : cluster.turn.numbers ≡ 0 ∷ stores
+
+-- each of the drivers behind so many others has its cluster, by its place
+abbrev pub AreDriversOf : {N B : Type 0} → List ℕ → ℕ → List (DriverWork N B) → List SharedValue → Type 0
+AreDriversOf stores before [] [] = Unit {0}
+AreDriversOf stores before (w ∷ ws) (cluster ∷ clusters) = IsDriverOfCluster stores (before + 1) w cluster × AreDriversOf stores (before + 1) ws clusters
+AreDriversOf stores before _ _ = ⊥
+
+-- a store with a port to each of these clusters, those behind so many others, whose streams have these names
+pub record HasPorts {N : Type 0} (names : List StreamName) (before : ℕ) (clusters : List SharedValue) (w : StoreWork N) : Type 0 where
+  pub ports : ArePorts w.store clusters w.ports.items
+  pub named : AreNamed names (before + 1) w.store (streams_at w.ports.items)
+
+-- the first port of a store is the one to this cluster, and its stream has one of these names
+pub record HasPortTo {N : Type 0} (names : List StreamName) (cluster : SharedValue) (w : StoreWork N) : Type 0 where
+  pub port : Port N
+  pub others : List (Port N)
+  pub ports : w.ports.items ≡ port ∷ others
+  pub is : IsPort w.store cluster port
+  pub named : Contains names (stream_name cluster.driver w.store port.taker.stream)
+
+-- ONCE IT IS CLOSED
+
+-- A driver's cluster that was closed behind the work of these stores: its journal is legal, its seat at the metadata has the answers to its entries; each store's
+-- entries and each store's steps are what the store made and popped by its port in this place, counted from one; and no other store has an entry
+pub record IsClosed {N : Type 0} (meta : TurnValue) (stores : List (StoreWork N)) (place : ℕ) (cluster : ClusterValue) (seat : SeatValue) : Type 0 where
   pub turn : seat.turn ≡ meta
   pub driver : seat.driver ≡ cluster.driver
   pub legal : IsLegal cluster.driver (reverse cluster.entries)
   pub answers : seat.list ≡ answers_in cluster.entries
   pub callers : All (λ (e : Entry). Contains (map (actor_of cluster.driver) (0 ∷ map (λ (w : StoreWork N). w.store) stores)) e.actor) cluster.entries
-  pub made : All (λ (w : StoreWork N). made_at w.ports.items cluster.driver ≡ entries_of (Store w.store) cluster.entries) stores
-  pub popped : All (λ (w : StoreWork N). ArePopped cluster.entries w.store (popped_at w.ports.items cluster.driver)) stores
+  pub made : All (λ (w : StoreWork N). made_at w.ports.items place ≡ entries_of (Store w.store) cluster.entries) stores
+  pub popped : All (λ (w : StoreWork N). ArePopped cluster.entries w.store (popped_at w.ports.items place)) stores
 
 -- of a driver: the entries of its share are its own in the journal of its cluster
 pub record IsDriversOwn {N B : Type 0} (w : DriverWork N B) (cluster : ClusterValue) : Type 0 where
   pub driver : cluster.driver ≡ w.number
   pub own : w.means.share.list ≡ entries_of (Driver w.number) cluster.entries
+
+-- one more driver's cluster was closed, and its seat at the metadata came back; each store lost its port to it
+pub record ClosesOne {N B : Type 0} (meta : TurnValue) (work : DriverWork N B) (old new : DriverParts N B) : Type 0 where
+  pub cluster : ClusterValue
+  pub seat : SeatValue
+  pub clusters_are : new.clusters.items ≡ old.clusters.items ++ cluster ∷ []
+  pub seats_are : new.meta.items ≡ old.meta.items ++ seat ∷ []
+  pub closed : IsClosed meta old.stores.items 1 cluster seat
+  pub own : IsDriversOwn work cluster
+  pub ports : List (Port N)
+  pub lost : LostPorts ports old.stores.items new.stores.items
+
+-- the clusters of the drivers from this one on were closed behind the work of these stores, each with its seat
+abbrev pub AreClosed : {N : Type 0} → TurnValue → List (StoreWork N) → ℕ → List ClusterValue → List SeatValue → Type 0
+AreClosed meta stores driver [] [] = Unit {0}
+AreClosed meta stores driver (cluster ∷ clusters) (seat ∷ seats) = (cluster.driver ≡ driver) × IsClosed meta stores driver cluster seat × AreClosed meta stores (driver + 1) clusters seats
+AreClosed meta stores driver _ _ = ⊥

@@ -7,3 +7,4 @@ pub mod Works
 pub mod Pipes
 pub mod Crews
 pub mod Ends
+pub mod Starts

@@ -1,12 +1,16 @@
 // What all workers leave.
-ghost use Rattle.std.specs.Prelude.{◌≡◌, ◌≢◌, ◌<◌, ℕ, false, All, Contains, IfNone, IfOk, IfSome, length, map};
+ghost use Rattle.std.specs.Prelude.{◌≡◌, ◌≢◌, ◌<◌, ◌∷◌, ◌++◌, [], ℕ, false, All, Contains, IfNone, IfOk, IfSome, flat_map, length, map};
+ghost use Rattle.std.specs.List.{AllZip};
 ghost use Rattle.pd_turn.specs.Turns.{AreApart};
+ghost use Rattle.tso_board.specs.Seats.{SeatValue};
+ghost use Rattle.tso_driver.specs.Drivers.{seat_of};
 ghost use Rattle.step_stream.specs.Streams.{EndValue};
 ghost use Rattle.pd_shared.specs.Names.{stream_name};
 ghost use Rattle.pd_shared.specs.Outlets.{OutletValue};
 ghost use Rattle.pd_shared.specs.Shares.{AreSharesOf};
-ghost use Rattle.pd_run.specs.Ends.{EndsOf, HasOutlet, IsClosing, IsPlaceOf, IsSettled, part_of};
-ghost use Rattle.pd_run.specs.Runs.{store_part};
+ghost use Rattle.pd_run.specs.Ends.{AreClosed, AreDriversOf, ClosesOne, EndsOf, HasOutlet, HasPorts, HasPortTo, IsClosing, IsDriverOfCluster, IsDriversOwn, IsPlaceOf, IsSettled, driver_part_of, lent, part_of};
+ghost use Rattle.pd_run.specs.Runs.{driver_part, store_part};
+ghost use Rattle.pd_run.specs.declared.driving.DriverWork.{DriverWork};
 ghost use Rattle.pd_run.specs.declared.storing.StoreWork.{StoreWork};
 
 use crate::answer::{DriverAnswers, StoreAnswers};
@@ -125,7 +129,16 @@ impl<N: ClusterName, B: Drop> DriverParts<N, B> {
         alloc: Global,
         work: DriverWork<N, B>,
         cluster: SharedCluster<N>,
-    ) -> Result<DriverParts<N, B>, NoMemory> {
+    ) -> Result<DriverParts<N, B>, NoMemory>
+        requires driver { IsDriverOfCluster (map (λ (w : StoreWork N). w.store) self.stores.items) cluster.driver work cluster }
+        requires apart { AreApart (0 ∷ map (λ (w : StoreWork N). w.store) self.stores.items) }
+        requires ports { All (HasPortTo N.streams cluster) self.stores.items }
+        ensures fine { IfOk result (λ parts. work.failed ≡ false) }
+        ensures oracle { IfOk result (λ parts. parts.oracle.items ≡ self.oracle.items ++ seat_of work.means.driver ∷ []) }
+        ensures answers { IfOk result (λ parts. map driver_part parts.answers.items ≡ map driver_part self.answers.items ++ driver_part_of work ∷ []) }
+        ensures benches { IfOk result (λ parts. parts.benches.items ≡ self.benches.items ++ lent work.means.bench) }
+        ensures closed { IfOk result (λ parts. ClosesOne N.meta work self parts) }
+    {
         let DriverWork {
             number,
             means,
@@ -163,7 +176,19 @@ pub fn driver_parts<N: ClusterName, B: Drop, R: Wait>(
     drivers: Vec<DriverWork<N, B>>,
     clusters: Vec<SharedCluster<N>>,
     stores: Vec<StoreWork<N>>,
-) -> Result<DriverParts<N, B>, NoMemory> {
+) -> Result<DriverParts<N, B>, NoMemory>
+    requires drivers { AreDriversOf (map (λ (w : StoreWork N). w.store) stores.items) 0 drivers.items clusters.items }
+    requires apart { AreApart (0 ∷ map (λ (w : StoreWork N). w.store) stores.items) }
+    requires ports { All (HasPorts N.streams 0 clusters.items) stores.items }
+    ensures fine { IfOk result (λ parts. All (λ (w : DriverWork N B). w.failed ≡ false) drivers.items) }
+    ensures oracle { IfOk result (λ parts. parts.oracle.items ≡ map (λ (w : DriverWork N B). seat_of w.means.driver) drivers.items) }
+    ensures answers { IfOk result (λ parts. map driver_part parts.answers.items ≡ map driver_part_of drivers.items) }
+    ensures benches { IfOk result (λ parts. parts.benches.items ≡ flat_map (λ (w : DriverWork N B). lent w.means.bench) drivers.items) }
+    ensures closed { IfOk result (λ parts. AreClosed N.meta stores.items 1 parts.clusters.items parts.meta.items) }
+    ensures own { IfOk result (λ parts. AllZip IsDriversOwn drivers.items parts.clusters.items) }
+    ensures stores { IfOk result (λ parts. map part_of parts.stores.items ≡ map part_of stores.items) }
+    ensures failed { IfOk result (λ parts. map (λ (w : StoreWork N). w.failed) parts.stores.items ≡ map (λ (w : StoreWork N). w.failed) stores.items) }
+{
     let mut parts = DriverParts {
         oracle: Vec::new(alloc),
         meta: Vec::new(alloc),

@@ -1,11 +1,27 @@
 // A run: all drivers, clients and stores answer their lines, each on a thread of its own.
-ghost use Rattle.std.specs.Prelude.{◌≡◌, All, IfOk, OnOk, length, map};
+ghost use Rattle.std.specs.Prelude.{◌≡◌, ◌≤◌, ◌∷◌, All, IfOk, List, OnOk, length, map};
 ghost use Rattle.std.specs.List.{AllZip};
 ghost use Rattle.std.specs.Vec.Iter.{into_iter_items};
 ghost use denote.Param.Send.{IsSync};
-ghost use Rattle.tso_board.specs.Boards.{setup_of};
+ghost use Rattle.pd_turn.specs.Turns.{AreApart};
+ghost use Rattle.tso_model.specs.Moves.{numbers_from};
+ghost use Rattle.tso_model.specs.Sound.{IsSetup};
+ghost use Rattle.tso_board.specs.Boards.{board_id, setup_of};
+ghost use Rattle.tso_board.specs.Crews.{IsLedgerOf};
+ghost use Rattle.tso_board.specs.Opened.{IsOpened};
+ghost use Rattle.tso_run.specs.declared.line.ClientLine.{ClientLine};
 ghost use Rattle.tso_run.specs.Lines.{IsCall};
-ghost use Rattle.pd_run.specs.Crews.{HaveWorked, IsReady};
+ghost use Rattle.pd_state.specs.Clusters.{ClusterValue};
+ghost use Rattle.pd_run.specs.Crews.{CameFrom, HaveWorked, IsReady};
+ghost use Rattle.pd_run.specs.Heard.{AreHeard};
+ghost use Rattle.pd_run.specs.Pipes.{ArePipesTo, names_from};
+ghost use Rattle.pd_run.specs.Runs.{AnswersTasks, IsLawful, lines_of, run_of};
+ghost use Rattle.pd_run.specs.Starts.{AreDealt, AreHandedOut, AreNewSeats, AreSpareSeats};
+ghost use Rattle.pd_run.specs.Tasks.{AreTasks};
+ghost use Rattle.pd_run.specs.declared.begin.Start.{Start};
+ghost use Rattle.pd_run.specs.declared.begin.Workers.{Workers};
+ghost use Rattle.pd_run.specs.declared.driving.DriverWork.{DriverWork};
+ghost use Rattle.pd_run.specs.declared.storing.StoreWork.{StoreWork};
 
 use crate::answer::{DriverAnswers, StoreAnswers};
 use crate::begin::{Start, Workers, begin};
@@ -50,7 +66,18 @@ fn starts_of<B: Drop>(
     pipes: Vec<Vec<Pipe>>,
     lines: Vec<Vec<DriverLine>>,
     benches: &mut IntoIter<B>,
-) -> Result<Vec<Start<B>>, NoMemory> {
+) -> Result<Vec<Start<B>>, NoMemory>
+    requires count { length oracle.items ≤ 7 }
+    requires seats { length metas.old.seats.items ≡ 8 }
+    requires pipes { length pipes.items ≡ length oracle.items }
+    requires lines { length lines.items ≡ length oracle.items }
+    ensures numbers { IfOk result (λ starts. map (λ start. start.driver) starts.items ≡ numbers_from 1 (length oracle.items)) }
+    ensures oracle { IfOk result (λ starts. map (λ start. start.oracle) starts.items ≡ oracle.items) }
+    ensures pipes { IfOk result (λ starts. map (λ start. start.pipes) starts.items ≡ pipes.items) }
+    ensures lines { IfOk result (λ starts. map (λ start. start.lines) starts.items ≡ lines.items) }
+    ensures seats { IfOk result (λ starts. AreHandedOut (map (λ start. start.meta) starts.items) metas.old.seats.items metas.new.seats.items) }
+    ensures benches { IfOk result (λ starts. AreDealt (into_iter_items benches.old) (map (λ start. start.bench) starts.items) (into_iter_items benches.new)) }
+{
     let mut starts = Vec::new(alloc);
     let mut pipes = pipes.into_iter();
     let mut lines = lines.into_iter();
@@ -164,14 +191,25 @@ where
 }
 
 // What all workers leave, and all benches, in their order, unless memory is wanting.
-fn end<N: BoardName + ClusterName, B: Drop, R: Wait>(
+fn end<N: BoardName + ClusterName, B: Seated + Drop, R: Wait>(
     rt: &R,
     alloc: Global,
     board: Board,
     metas: MetaSeats,
     others: Vec<B>,
     workers: Workers<N, B>,
-) -> Result<(Left, Vec<B>), NoMemory> {
+) -> Result<(Left, Vec<B>), NoMemory>
+    requires setup { IsSetup (setup_of board) }
+    requires apart { AreApart (0 ∷ map (λ (w : StoreWork N). w.store) workers.stores.items) }
+    requires metas { AreSpareSeats N.meta (setup_of board).drivers metas.seats.items }
+    requires worked { (clients : List ClientLine) × (first : Workers N B) × CameFrom N.board N.streams B.seats board clients first workers }
+    ensures ledger { IfOk result (λ r. IsLedgerOf r.0.ledger board) }
+    ensures lawful { IfOk result (λ r. IsLawful (run_of (setup_of board) r.0)) }
+    ensures answers { IfOk result (λ r. (clients : List ClientLine) (first : Workers N B) → CameFrom N.board N.streams B.seats board clients first workers
+        → AnswersTasks (map (λ (w : DriverWork N B). w.lines.items) first.drivers.items) clients (map (λ (w : StoreWork N). (w.store, w.lines.items)) first.stores.items) (run_of (setup_of board) r.0)) }
+    ensures heard { IfOk result (λ r. (clients : List ClientLine) (first : Workers N B) (benches : List B) → CameFrom N.board N.streams B.seats board clients first workers
+        → AreDealt benches (map (λ (w : DriverWork N B). w.means.bench) first.drivers.items) others.items → AreHeard 1 (map (λ (c : ClusterValue). c.entries) r.0.clusters.items) (map B.seats benches) (map B.seats r.1.items)) }
+{
     let Workers {
         post,
         clusters,
@@ -225,6 +263,18 @@ where
     B: Seated + Drop + Send,
     R: Threads + Wait + Sync,
     G: Gate + Sync,
+    requires named { board_id crew.board ≡ N.board }
+    requires setup { IsSetup (setup_of crew.board) }
+    requires opened { IsOpened (setup_of crew.board) crew }
+    requires tasks { AreTasks (setup_of crew.board) tasks }
+    requires metas { AreNewSeats N.meta metas.seats.items }
+    requires pipes { All (λ one. ArePipesTo (map (λ lines. lines.store) tasks.stores.items) one.items) pipes.items }
+    requires each { length pipes.items ≡ (setup_of crew.board).drivers }
+    requires streams { N.streams ≡ names_from 1 (map (λ one. one.items) pipes.items) }
+    ensures ledger { IfOk result (λ r. IsLedgerOf r.0.ledger crew.board) }
+    ensures lawful { IfOk result (λ r. IsLawful (run_of (setup_of crew.board) r.0)) }
+    ensures answers { IfOk result (λ r. AnswersTasks (map (λ lines. lines.items) tasks.drivers.items) tasks.clients.items (map lines_of tasks.stores.items) (run_of (setup_of crew.board) r.0)) }
+    ensures heard { IfOk result (λ r. AreHeard 1 (map (λ (c : ClusterValue). c.entries) r.0.clusters.items) (map B.seats benches.items) (map B.seats r.1.items)) }
 {
     let Crew {
         board,
@@ -258,7 +308,15 @@ pub fn run<B: Seated + Drop + Send, R: Threads + Wait + Sync, G: Gate + Sync>(
     benches: Vec<B>,
     crew: Crew,
     gate: &G,
-) -> Result<(Left, Vec<B>), NoMemory> {
+) -> Result<(Left, Vec<B>), NoMemory>
+    requires setup { IsSetup (setup_of crew.board) }
+    requires opened { IsOpened (setup_of crew.board) crew }
+    requires tasks { AreTasks (setup_of crew.board) tasks }
+    ensures ledger { IfOk result (λ r. IsLedgerOf r.0.ledger crew.board) }
+    ensures lawful { IfOk result (λ r. IsLawful (run_of (setup_of crew.board) r.0)) }
+    ensures answers { IfOk result (λ r. AnswersTasks (map (λ lines. lines.items) tasks.drivers.items) tasks.clients.items (map lines_of tasks.stores.items) (run_of (setup_of crew.board) r.0)) }
+    ensures heard { IfOk result (λ r. AreHeard 1 (map (λ (c : ClusterValue). c.entries) r.0.clusters.items) (map B.seats benches.items) (map B.seats r.1.items)) }
+{
     let metas = MetaSeats::open(alloc)?;
     let pipes = open_pipes(alloc, crew.seats.len(), tasks.stores.as_slice())?;
     run_named::<Brand, B, R, G>(rt, alloc, tasks, benches, crew, metas, pipes, gate)
