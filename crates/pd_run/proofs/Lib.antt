@@ -8,3 +8,5 @@ pub mod Opening
 pub mod Beginning
 pub mod Taking
 pub mod Settling
+pub mod Closing
+pub mod Parting
