@@ -10,3 +10,5 @@ pub mod Taking
 pub mod Settling
 pub mod Closing
 pub mod Parting
+pub mod Leaving
+pub mod Finishing

@@ -150,7 +150,6 @@ pub record StoreLineAnswered {N : Type 0} (line : StoreLine) (v w : StoreWork N)
   pub did : StoreDid line.number line.task says own
   pub made : (driver : ℕ) → made_at w.ports.items driver ≡ made_at v.ports.items driver ++ own_at driver (record { line = line; says = says; own = own })
   pub popped : (driver : ℕ) → popped_at w.ports.items driver ≡ popped_at v.ports.items driver ++ taken_at driver (record { line = line; says = says; own = own })
-  pub streams : streams_at w.ports.items ≡ streams_at v.ports.items
   pub answers : w.answers.items ≡ v.answers.items ++ record { line = line.number; driver = line.driver; says = says } ∷ []
 
 -- nothing was called by these ports, and nothing popped
@@ -163,7 +162,7 @@ pub record HasDoneNothing {N : Type 0} (ports : List (Port N)) : Type 0 where
 pub record StoreLinesAnswered {N : Type 0} (clusters : List SharedValue) (lines : List StoreLine) (v w : StoreWork N) : Type 0 where
   pub store : w.store ≡ v.store
   pub ports : ArePorts v.store clusters w.ports.items
-  pub streams : w.failed ≡ false → streams_at w.ports.items ≡ streams_at v.ports.items
+  pub streams : streams_at w.ports.items ≡ streams_at v.ports.items
   pub answered : w.failed ≡ false → StoreAnswered lines w.answers.items (made_at w.ports.items) (popped_at w.ports.items)
 
 -- a store with a port to each of these clusters that did nothing yet, and whose lines go to these clusters

@@ -3,7 +3,7 @@
 ghost use Rattle.std.specs.Prelude.{◌≡◌, [], false, All, IfOk, OnOk, length};
 ghost use Rattle.std.specs.Arc.{arc_value};
 ghost use Rattle.pd_run.specs.Tasks.{GoesTo};
-ghost use Rattle.pd_run.specs.Works.{ArePorts, HasDoneNothing, IsNewStore, PortDone, StaysPort, StoreLineAnswered, StoreLinesAnswered, StoreWorked};
+ghost use Rattle.pd_run.specs.Works.{ArePorts, HasDoneNothing, IsNewStore, PortDone, StaysPort, StoreLineAnswered, StoreLinesAnswered, StoreWorked, streams_at};
 
 use crate::answer::{StoreAnswer, StoreSays};
 use crate::line::{StoreLine, StoreTask};
@@ -79,6 +79,7 @@ impl<N: ClusterName> StoreWork<N> {
         requires ports { ArePorts self.old.store clusters.now self.old.ports.items }
         requires line { GoesTo (length clusters.now) line }
         ensures ports { ArePorts self.old.store clusters.now self.new.ports.items }
+        ensures streams { streams_at self.new.ports.items ≡ streams_at self.old.ports.items }
         ensures store { self.new.store ≡ self.old.store }
         ensures failed { self.new.failed ≡ self.old.failed }
         ensures ok { OnOk result (StoreLineAnswered line self.old self.new) }

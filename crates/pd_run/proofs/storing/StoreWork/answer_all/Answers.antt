@@ -23,7 +23,7 @@ loop-line-preserved g c =
       store = c.in-Ok.ensures.store ∙ l.store;
       fine = c.in-Ok.ensures.failed ∙ l.fine;
       lines = All-rest (GoesTo (length c.args.clusters.now)) _ _ _ c.in-Some.ensures.steps.0 l.lines;
-      streams = one.streams ∙ l.streams;
+      streams = c.in-Ok.ensures.streams ∙ l.streams;
       answered = (
         lines ++ line ∷ [],
         append_assoc lines (line ∷ []) rest ∙ ap (λ x. lines ++ x) (sym c.in-Some.ensures.steps.0) ∙ l.answered.1,

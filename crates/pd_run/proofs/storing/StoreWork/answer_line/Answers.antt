@@ -27,6 +27,12 @@ returns-in_err-says-clause-ports g c = ports_after {N = g.row.N.Denot} c.args.se
 pub returns-clause-ports : goal.returns-clause-ports
 returns-clause-ports g c = ports_after {N = g.row.N.Denot} c.args.self.now.store c.args.clusters.now c.args.self.now.ports.items c.requires.ports c.args.line c.requires.line c.index_mut-port.result.now c.answer.new.self c.index_mut-port.ensures.value c.answer.ensures.stays
 
+pub returns-in_err-says-clause-streams : goal.returns-in_err-says-clause-streams
+returns-in_err-says-clause-streams g c = streams_after {N = g.row.N.Denot} c.args.self.now.store c.args.clusters.now c.args.self.now.ports.items c.requires.ports c.args.line c.requires.line c.index_mut-port.result.now c.answer.new.self c.index_mut-port.ensures.value c.answer.ensures.stays
+
+pub returns-clause-streams : goal.returns-clause-streams
+returns-clause-streams g c = streams_after {N = g.row.N.Denot} c.args.self.now.store c.args.clusters.now c.args.self.now.ports.items c.requires.ports c.args.line c.requires.line c.index_mut-port.result.now c.answer.new.self c.index_mut-port.ensures.value c.answer.ensures.stays
+
 pub returns-clause-ok : goal.returns-clause-ok
 returns-clause-ok g c =
     let done = c.in_ok-says.ensures.ok in record {
@@ -35,6 +41,5 @@ returns-clause-ok g c =
       did = done.did;
       made = made_after {N = g.row.N.Denot} c.args.self.now.store c.args.clusters.now c.args.self.now.ports.items c.requires.ports c.args.line c.requires.line c.index_mut-port.result.now c.answer.new.self c.index_mut-port.ensures.value c.answer.ensures.stays c.in_ok-says.says done;
       popped = popped_after {N = g.row.N.Denot} c.args.self.now.store c.args.clusters.now c.args.self.now.ports.items c.requires.ports c.args.line c.requires.line c.index_mut-port.result.now c.answer.new.self c.index_mut-port.ensures.value c.answer.ensures.stays c.in_ok-says.says done;
-      streams = streams_after {N = g.row.N.Denot} c.args.self.now.store c.args.clusters.now c.args.self.now.ports.items c.requires.ports c.args.line c.requires.line c.index_mut-port.result.now c.answer.new.self c.index_mut-port.ensures.value c.answer.ensures.stays;
       answers = c.push_reserved.ensures.items ∙ ap (λ (xs : List StoreAnswer). xs ++ record { line = c.args.line.number; driver = c.args.line.driver; says = c.in_ok-says.says } ∷ []) c.in_ok-reserve.ensures.items;
     }
