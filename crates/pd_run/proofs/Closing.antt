@@ -26,14 +26,14 @@ head_or d [] = d
 head_or d (x ∷ xs) = x
 
 -- the numbers of stores, none of which is 0
-store_actors : (driver : ℕ) (ids : List ℕ) → (Among 0 ids → ⊥) → map (actor_of driver) ids ≡ map Store ids
+pub store_actors : (driver : ℕ) (ids : List ℕ) → (Among 0 ids → ⊥) → map (actor_of driver) ids ≡ map Store ids
 store_actors driver [] none = refl
 store_actors driver (n ∷ ids) none =
     let one : actor_of driver n ≡ Store n = ap (λ b. cond b (Driver driver) (Store n)) (ne_eqb n 0 (λ zero. none (0, ap some zero))) in
     let rest = store_actors driver ids (λ among. none (suc among.0, among.1)) in
     λ i. one i ∷ rest i
 
-driver_actor : (driver : ℕ) → actor_of driver 0 ≡ Driver driver
+pub driver_actor : (driver : ℕ) → actor_of driver 0 ≡ Driver driver
 driver_actor driver = ap (λ b. cond b (Driver driver) (Store 0)) (eq-eqb 0 0 refl)
 
 module _ {N : Type 0} (names : List StreamName) (cluster : SharedValue) where

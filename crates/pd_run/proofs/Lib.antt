@@ -12,3 +12,5 @@ pub mod Closing
 pub mod Parting
 pub mod Leaving
 pub mod Finishing
+pub mod Spare
+pub mod Judging
