@@ -55,7 +55,7 @@ use Rattle.pd_shared.specs.Shares.{SharedValue}
 pub lawful_oracle : (run : OracleRun) → IsFinished run → IsLawfulOracle run
 lawful_oracle run f = let b = came_back run f in record { windows = keep_windows run b; batches = keep_batches run b; refusals = keep_refusals run b; terms = keep_terms run b }
 
-numbers_length : (a n : ℕ) → length (numbers_from a n) ≡ n
+pub numbers_length : (a n : ℕ) → length (numbers_from a n) ≡ n
 numbers_length a zero = refl
 numbers_length a (suc n) = omega (arith, numbers_length (a + 1) n)
 

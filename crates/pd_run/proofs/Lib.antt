@@ -14,3 +14,5 @@ pub mod Leaving
 pub mod Finishing
 pub mod Spare
 pub mod Judging
+pub mod Starting
+pub mod Outcome
