@@ -16,3 +16,4 @@ pub mod Spare
 pub mod Judging
 pub mod Starting
 pub mod Outcome
+pub mod Readying

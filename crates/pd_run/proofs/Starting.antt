@@ -11,11 +11,11 @@ use Rattle.pd_run.specs.declared.begin.Start.{Start}
 use Rattle.pd_run.specs.declared.line.DriverLine.{DriverLine}
 use Rattle.pd_run.specs.declared.pipe.Pipe.{Pipe}
 
-abbrev head_or : {A : Type 0} → A → List A → A
+abbrev pub head_or : {A : Type 0} → A → List A → A
 head_or d [] = d
 head_or d (x ∷ xs) = x
 
-abbrev rest_of : {A : Type 0} → List A → List A
+abbrev pub rest_of : {A : Type 0} → List A → List A
 rest_of [] = []
 rest_of (x ∷ xs) = xs
 
