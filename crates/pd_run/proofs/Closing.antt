@@ -36,6 +36,10 @@ store_actors driver (n ∷ ids) none =
 pub driver_actor : (driver : ℕ) → actor_of driver 0 ≡ Driver driver
 driver_actor driver = ap (λ b. cond b (Driver driver) (Store 0)) (eq-eqb 0 0 refl)
 
+-- the stream whose end popped has one of these names
+abbrev NamedEnd : List StreamName → SharedValue → ℕ × EndValue → Type 0
+NamedEnd names cluster end = Contains names (stream_name cluster.driver end.0 end.1.stream)
+
 module _ {N : Type 0} (names : List StreamName) (cluster : SharedValue) where
   -- the first port of a store
   record IsFirst (w : StoreWork N) (p : Port N) : Type 0 where
@@ -73,14 +77,11 @@ module _ {N : Type 0} (names : List StreamName) (cluster : SharedValue) where
   their_actors (o ∷ olds) [] first = absurd first
   their_actors (o ∷ olds) (p ∷ ports) first = let one = first.0.is.actor_is in let rest = their_actors olds ports first.1 in λ i. one i ∷ rest i
 
-  abbrev NamedEnd : ℕ × EndValue → Type 0
-  NamedEnd end = Contains names (stream_name cluster.driver end.0 end.1.stream)
-
-  their_names : (olds : List (StoreWork N)) (ports : List (Port N)) → AllZip IsFirst olds ports → All NamedEnd (zip (map (λ (w : StoreWork N). w.store) olds) (map (λ (p : Port N). p.taker) ports))
-  their_names [] [] first = All-nil NamedEnd
+  their_names : (olds : List (StoreWork N)) (ports : List (Port N)) → AllZip IsFirst olds ports → All (NamedEnd names cluster) (zip (map (λ (w : StoreWork N). w.store) olds) (map (λ (p : Port N). p.taker) ports))
+  their_names [] [] first = All-nil (NamedEnd names cluster)
   their_names [] (p ∷ ports) first = absurd first
   their_names (o ∷ olds) [] first = absurd first
-  their_names (o ∷ olds) (p ∷ ports) first = All-cons NamedEnd (o.store, p.taker) (zip (map (λ (w : StoreWork N). w.store) olds) (map (λ (q : Port N). q.taker) ports)) first.0.named (their_names olds ports first.1)
+  their_names (o ∷ olds) (p ∷ ports) first = All-cons (NamedEnd names cluster) (o.store, p.taker) (zip (map (λ (w : StoreWork N). w.store) olds) (map (λ (q : Port N). q.taker) ports)) first.0.named (their_names olds ports first.1)
 
   -- what each store made is its entries in the journal
   they_made : (entries : List Entry) (olds : List (StoreWork N)) (ports : List (Port N)) → AllZip IsFirst olds ports → All (IsInJournal entries) (map (λ (p : Port N). p.share) ports)
@@ -120,8 +121,8 @@ module _ {N : Type 0} (names : List StreamName) (cluster : SharedValue) where
     firsts : AllZip IsFirst olds ends.ports
     firsts = first_ports ends.ports olds news ends.lost has
 
-    pub named_ends : All NamedEnd takers
-    named_ends = subst (All NamedEnd) (sym ends.takers_are) (their_names olds ends.ports firsts)
+    pub named_ends : All (NamedEnd names cluster) takers
+    named_ends = subst (All (NamedEnd names cluster)) (sym ends.takers_are) (their_names olds ends.ports firsts)
 
     module _ (of : IsDriverOfCluster ids cluster.driver work cluster) (apart : AreApart (0 ∷ ids)) where
       actors : map (λ (s : ShareValue). s.actor) shares ≡ actors_of cluster

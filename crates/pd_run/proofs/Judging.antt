@@ -1,5 +1,5 @@
 -- What of a run is lawful, once its clusters and its metadata are closed.
-use Rattle.std.proofs.Common.{◌≡◌, ℕ, zero, suc, ◌+◌, ◌==◌, List, [], ◌∷◌, ◌++◌, false, length, map, reverse, refl, sym, ap, ◌∙◌, arith, subst, append_assoc}
+use Rattle.std.proofs.Common.{◌≡◌, ℕ, zero, suc, ◌+◌, ◌==◌, List, [], ◌∷◌, ◌++◌, false, get_or, length, map, reverse, refl, sym, ap, ◌∙◌, arith, subst, append_assoc}
 use Rattle.std.specs.Prelude.{All, Contains, Option, Some, None, flat_map}
 use Rattle.std.specs.Option.{is_some}
 use Rattle.std.specs.List.{AllZip}
@@ -80,7 +80,7 @@ module _ {N : Type 0} where
       legal = closed.legal;
       served = subst (λ (as : List Actor). All (λ (e : Entry). Contains as e.actor) cluster.entries) (callers_are cluster.driver ws apart) closed.callers;
       kept = ap (λ n. heard_by n (reverse metadata)) (sym closed.driver) ∙ sym heard ∙ closed.answers;
-      popped = all_map (λ (part : StorePart). ArePopped cluster.entries part.store (taken_by cluster.driver part.answers)) part_of ws (λ k d low. popped_by cluster driver _ is (took k d low) (closed.popped k d low));
+      popped = all_map (λ (part : StorePart). ArePopped cluster.entries part.store (taken_by cluster.driver part.answers)) part_of ws (λ k d low. popped_by cluster driver (get_or ws k d) is (took k d low) (closed.popped k d low));
     }
 
     pub lawful_journals : (driver : ℕ) (clusters : List ClusterValue) (seats : List SeatValue) → AreClosed meta ws driver clusters seats → All (IsHeard metadata) seats → All (IsLawfulJournal (map part_of ws) metadata) (map journal_of clusters)
@@ -109,12 +109,12 @@ module _ {N : Type 0} where
   OwnMade w journal = made_at w.ports.items journal.driver ≡ entries_of (Store w.store) journal.entries
 
   pub stores_made : (meta : TurnValue) (ws : List (StoreWork N)) (driver : ℕ) (clusters : List ClusterValue) (seats : List SeatValue) → AreClosed meta ws driver clusters seats → All (λ (w : StoreWork N). All (OwnMade w) (map journal_of clusters)) ws
-  stores_made meta ws driver [] [] closed = λ k d low. All-nil _
+  stores_made meta ws driver [] [] closed = λ k d low. All-nil (OwnMade (get_or ws k d))
   stores_made meta ws driver [] (s ∷ seats) closed = absurd closed
   stores_made meta ws driver (c ∷ clusters) [] closed = absurd closed
   stores_made meta ws driver (c ∷ clusters) (s ∷ seats) closed =
       let rest = stores_made meta ws (driver + 1) clusters seats closed.2 in
-      λ k d low. All-cons _ (journal_of c) (map journal_of clusters) (one _ (closed.1.made k d low)) (rest k d low)
+      λ k d low. All-cons (OwnMade (get_or ws k d)) (journal_of c) (map journal_of clusters) (one (get_or ws k d) (closed.1.made k d low)) (rest k d low)
     where
       one : (w : StoreWork N) → made_at w.ports.items driver ≡ entries_of (Store w.store) c.entries → OwnMade w (journal_of c)
       one w is = ap (made_at w.ports.items) closed.0 ∙ is
@@ -156,13 +156,8 @@ module _ {N B : Type 0} (seats : B → Seats) (board : Board) where
     drivers_answer vs ws clusters worked.1 (All-tail (λ (x : DriverWork N B). x.failed ≡ false) w ws fine) own.1,
   )
 
-  -- WHAT THE BENCHES SAID
-  abbrev bench_of : DriverWork N B → Option B
-  bench_of w = w.means.bench
-
-  abbrev back : List (DriverWork N B) → List B
-  back ws = flat_map (λ (w : DriverWork N B). lent w.means.bench) ws
-
+-- WHAT THE BENCHES SAID
+module _ {B : Type 0} (seats : B → Seats) where
   others_stay : (driver : ℕ) (xs ys : List B) → xs ≡ ys → AreHeard driver [] (map seats xs) (map seats ys)
   others_stay driver xs ys is = subst (λ (l : List B). AreHeard driver [] (map seats xs) (map seats l)) is (same driver xs)
     where
@@ -173,10 +168,6 @@ module _ {N B : Type 0} (seats : B → Seats) (board : Board) where
   -- the bench of one driver
   abbrev Heard : ℕ → ClusterValue → Option B → Option B → Type 0
   Heard driver c old new = HeardAll (entries_of (Driver driver) c.entries) (seats_of seats old) (seats_of seats new)
-
-  heard_one : (driver : ℕ) (v w : DriverWork N B) (c : ClusterValue) → w.number ≡ driver → DriverWorked seats board v w → w.failed ≡ false → IsDriversOwn w c → Heard driver c v.means.bench w.means.bench
-  heard_one driver v w c number worked fine own =
-      subst (λ (es : List Entry). HeardAll es (seats_of seats v.means.bench) (seats_of seats w.means.bench)) (own.own ∙ ap (λ n. entries_of (Driver n) c.entries) number) (worked.heard fine)
 
   deal : (driver : ℕ) (c : ClusterValue) (cs : List ClusterValue) (benches others : List B) (old new : Option B) (olds : List (Option B)) (news : List B) → is_some new ≡ is_some old → Heard driver c old new → AreDealt benches (old ∷ olds) others
       → ((rest : List B) → AreDealt rest olds others → AreHeard (driver + 1) (map (λ (x : ClusterValue). x.entries) cs) (map seats rest) (map seats (news ++ others)))
@@ -197,9 +188,20 @@ module _ {N B : Type 0} (seats : B → Seats) (board : Board) where
   deal driver c cs (b ∷ benches) others (Some one) (Some two) olds news same heard dealt behind =
       (subst (λ (x : B). HeardAll (entries_of (Driver driver) c.entries) (seats x) (seats two)) (sym dealt.0) heard, behind benches dealt.1)
 
+module _ {N B : Type 0} (seats : B → Seats) (board : Board) where
+  abbrev bench_of : DriverWork N B → Option B
+  bench_of w = w.means.bench
+
+  abbrev back : List (DriverWork N B) → List B
+  back ws = flat_map (λ (w : DriverWork N B). lent w.means.bench) ws
+
+  heard_one : (driver : ℕ) (v w : DriverWork N B) (c : ClusterValue) → w.number ≡ driver → DriverWorked seats board v w → w.failed ≡ false → IsDriversOwn w c → Heard seats driver c v.means.bench w.means.bench
+  heard_one driver v w c number worked fine own =
+      subst (λ (es : List Entry). HeardAll es (seats_of seats v.means.bench) (seats_of seats w.means.bench)) (own.own ∙ ap (λ n. entries_of (Driver n) c.entries) number) (worked.heard fine)
+
   pub benches_heard : (driver n : ℕ) (vs ws : List (DriverWork N B)) (clusters : List ClusterValue) (benches others : List B) → map (λ (w : DriverWork N B). w.number) ws ≡ numbers_from driver n → AllZip (DriverWorked seats board) vs ws → All (λ (w : DriverWork N B). w.failed ≡ false) ws
       → AllZip IsDriversOwn ws clusters → AreDealt benches (map bench_of vs) others → AreHeard driver (map (λ (x : ClusterValue). x.entries) clusters) (map seats benches) (map seats (back ws ++ others))
-  benches_heard driver n [] [] [] benches others numbers worked fine own dealt = others_stay driver benches others dealt
+  benches_heard driver n [] [] [] benches others numbers worked fine own dealt = others_stay seats driver benches others dealt
   benches_heard driver n [] [] (c ∷ clusters) benches others numbers worked fine own dealt = absurd own
   benches_heard driver n [] (w ∷ ws) clusters benches others numbers worked fine own dealt = absurd worked
   benches_heard driver n (v ∷ vs) [] clusters benches others numbers worked fine own dealt = absurd worked
@@ -209,4 +211,4 @@ module _ {N B : Type 0} (seats : B → Seats) (board : Board) where
       let number : w.number ≡ driver = ap (head_or w.number) numbers in
       let rest = λ (left : List B) (given : AreDealt left (map bench_of vs) others). benches_heard (driver + 1) n vs ws clusters left others (ap rest_of numbers) worked.1 (All-tail (λ (x : DriverWork N B). x.failed ≡ false) w ws fine) own.1 given in
       subst (λ (l : List B). AreHeard driver (map (λ (x : ClusterValue). x.entries) (c ∷ clusters)) (map seats benches) (map seats l)) (sym (append_assoc (lent w.means.bench) (back ws) others))
-      (deal driver c clusters benches others v.means.bench w.means.bench (map bench_of vs) (back ws) worked.0.stays.bench (heard_one driver v w c number worked.0 (All-head (λ (x : DriverWork N B). x.failed ≡ false) w ws fine) own.0) dealt rest)
+      (deal seats driver c clusters benches others v.means.bench w.means.bench (map bench_of vs) (back ws) worked.0.stays.bench (heard_one driver v w c number worked.0 (All-head (λ (x : DriverWork N B). x.failed ≡ false) w ws fine) own.0) dealt rest)

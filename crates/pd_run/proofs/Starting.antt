@@ -1,6 +1,7 @@
 -- What each driver begins with, one after the other.
 use Rattle.std.proofs.Common.{Vec, Global, ◌≡◌, ℕ, zero, suc, ◌+◌, ◌-◌, ◌<◌, ◌≤◌, List, [], ◌∷◌, ◌++◌, get_or, length, map, refl, sym, ap, ◌∙◌, arith, subst, append_assoc}
-use Rattle.std.specs.Prelude.{Option, Some, None, remove}
+use mathlib.Core.Bool.{true≢false}
+use Rattle.std.specs.Prelude.{IsSome, Option, Some, None, option_to_list, remove, ◌↔◌}
 use Rattle.std.proofs.lemmas.List.{append-nil, length-append, map-append}
 use Rattle.tso_board.specs.declared.seat.DriverSeat.{DriverSeat}
 use Rattle.tso_model.specs.Moves.{numbers_from}
@@ -19,6 +20,24 @@ abbrev pub rest_of : {A : Type 0} → List A → List A
 rest_of [] = []
 rest_of (x ∷ xs) = xs
 
+handed_none : (metas : List SeatValue) → 0 < length metas → AreHandedOut [] metas metas
+handed_none [] some_seat = absurd (omega (arith, some_seat))
+handed_none (s ∷ metas) some_seat = record { first = s; others = metas; old_are = refl; new_are = refl }
+
+-- the second seat is handed out
+handed_more : (given : List SeatValue) (all old new : List SeatValue) (seat : SeatValue) → AreHandedOut given all old → 1 < length old → seat ≡ get_or old 1 seat → new ≡ remove old 1 → AreHandedOut (given ++ seat ∷ []) all new
+handed_more given all old new seat h more is rest = by h.others h.old_are h.new_are
+  where
+    by : (others : List SeatValue) → all ≡ h.first ∷ (given ++ others) → old ≡ h.first ∷ others → AreHandedOut (given ++ seat ∷ []) all new
+    by [] old_are new_are = absurd (let e : length old ≡ 1 = ap length new_are in omega (arith, more, e))
+    by (s ∷ others) old_are new_are =
+        let same : seat ≡ s = is ∙ ap (λ l. get_or l 1 seat) new_are in record {
+          first = h.first;
+          others = others;
+          old_are = old_are ∙ (λ i. h.first ∷ (given ++ sym same i ∷ others)) ∙ ap (λ l. h.first ∷ l) (sym (append_assoc given (seat ∷ []) others));
+          new_are = rest ∙ ap (λ l. remove l 1) new_are;
+        }
+
 module _ {B : Type 0} where
   -- so far the first drivers have what they begin with
   pub record Begun (seats : List DriverSeat) (seats_left : List DriverSeat) (pipes pipes_left : List (Vec Pipe Global)) (lines lines_left : List (Vec DriverLine Global)) (metas metas_left : List SeatValue) (benches benches_left : List B) (driver : ℕ) (starts : List (Start B)) : Type 0 where
@@ -30,10 +49,6 @@ module _ {B : Type 0} where
     pub given : AreHandedOut (map (λ (s : Start B). s.meta) starts) metas metas_left
     pub dealt : AreDealt benches (map (λ (s : Start B). s.bench) starts) benches_left
 
-  handed_none : (metas : List SeatValue) → 0 < length metas → AreHandedOut [] metas metas
-  handed_none [] some_seat = absurd (omega (arith, some_seat))
-  handed_none (s ∷ metas) some_seat = record { first = s; others = metas; old_are = refl; new_are = refl }
-
   pub begun_none : (seats left : List DriverSeat) (pipes pipes_left : List (Vec Pipe Global)) (lines lines_left : List (Vec DriverLine Global)) (metas : List SeatValue) (benches : List B) (starts : List (Start B)) → left ≡ seats → pipes_left ≡ pipes → lines_left ≡ lines → 0 < length metas → starts ≡ []
       → Begun seats left pipes pipes_left lines lines_left metas metas benches benches 0 starts
   begun_none seats left pipes pipes_left lines lines_left metas benches starts same_seats same_pipes same_lines some_seat none =
@@ -41,20 +56,6 @@ module _ {B : Type 0} where
     where
       dealt_none : (l : List B) → AreDealt l [] l
       dealt_none l = refl
-
-  -- the second seat is handed out
-  handed_more : (given : List SeatValue) (all old new : List SeatValue) (seat : SeatValue) → AreHandedOut given all old → 1 < length old → seat ≡ get_or old 1 seat → new ≡ remove old 1 → AreHandedOut (given ++ seat ∷ []) all new
-  handed_more given all old new seat h more is rest = by h.others h.old_are h.new_are
-    where
-      by : (others : List SeatValue) → all ≡ h.first ∷ (given ++ others) → old ≡ h.first ∷ others → AreHandedOut (given ++ seat ∷ []) all new
-      by [] old_are new_are = absurd (let e : length old ≡ 1 = ap length new_are in omega (arith, more, e))
-      by (s ∷ others) old_are new_are =
-          let same : seat ≡ s = is ∙ ap (λ l. get_or l 1 seat) new_are in record {
-            first = h.first;
-            others = others;
-            old_are = old_are ∙ (λ i. h.first ∷ (given ++ sym same i ∷ others)) ∙ ap (λ l. h.first ∷ l) (sym (append_assoc given (seat ∷ []) others));
-            new_are = rest ∙ ap (λ l. remove l 1) new_are;
-          }
 
   -- the next bench is dealt out, or none where none is left
   dealt_some : (benches : List B) (given : List (Option B)) (left rest : List B) (bench : B) → AreDealt benches given left → left ≡ bench ∷ rest → AreDealt benches (given ++ Some bench ∷ []) rest
@@ -83,6 +84,11 @@ module _ {B : Type 0} where
   abbrev pub Took : List B → Option B → List B → Type 0
   Took left None rest = (left ≡ []) × (rest ≡ [])
   Took left (Some bench) rest = left ≡ bench ∷ rest
+
+  pub took_next : (left rest : List B) (bench : Option B) (n : ℕ) → left ≡ option_to_list bench ++ rest → (IsSome bench ↔ (0 < n)) → n ≡ length left → Took left bench rest
+  took_next left rest (Some bench) n is some_bench long = is
+  took_next [] rest None n is some_bench long = (refl, sym is)
+  took_next (b ∷ left) rest None n is some_bench long = absurd (true≢false (sym (some_bench.1 (omega (arith, long)))))
 
   took_more : (benches : List B) (given : List (Option B)) (left rest : List B) (bench : Option B) → AreDealt benches given left → Took left bench rest → AreDealt benches (given ++ bench ∷ []) rest
   took_more benches given left rest None dealt took = subst (AreDealt benches (given ++ None ∷ [])) (sym took.1) (dealt_more benches given left dealt took.0)
@@ -113,12 +119,6 @@ module _ {B : Type 0} where
     -- so many are done and so many left
     pub seats_count : driver + length left ≡ length seats
     seats_count = counted (λ (s : Start B). s.oracle) left seats h.oracle
-
-    pub pipes_count : driver + length pipes_left ≡ length pipes
-    pipes_count = counted (λ (s : Start B). s.pipes) pipes_left pipes h.pipes_are
-
-    pub lines_count : driver + length lines_left ≡ length lines
-    lines_count = counted (λ (s : Start B). s.lines) lines_left lines h.lines_are
 
     pub metas_count : driver + length metas_left ≡ length metas
     metas_count =
