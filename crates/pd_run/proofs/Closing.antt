@@ -145,7 +145,7 @@ module _ {N : Type 0} (names : List StreamName) (cluster : SharedValue) where
           driver = h.kept.driver_is;
           legal = h.kept.legal;
           answers = h.kept.answers h.alive;
-          callers = subst (λ (as : List Actor). All (λ (e : Entry). Contains as e.actor) closed.entries) (ap (map (actor_of cluster.driver)) of.numbers ∙ ap (λ d. map (actor_of d) (0 ∷ ids)) (sym h.driver)) h.callers;
+          callers = subst (λ (actors : List Actor). All (λ (e : Entry). Contains actors e.actor) closed.entries) (ap (map (actor_of cluster.driver)) of.numbers ∙ ap (λ d. map (actor_of d) (0 ∷ ids)) (sym h.driver)) h.callers;
           made = they_made closed.entries olds ends.ports firsts (All-tail (IsInJournal closed.entries) work.means.share (map (λ (p : Port N). p.share) ends.ports) (subst (All (IsInJournal closed.entries)) ends.shares_are h.lists));
           popped = they_popped closed.entries h.outlets olds ends.ports h.kept.served firsts (subst (All (IsSettled h.outlets)) ends.takers_are h.settled);
         }

@@ -49,7 +49,7 @@ taken_popped lines answers entries popped h driver = ap (flat_map (taken_of driv
 
 module _ {N : Type 0} where
   -- by its answers a store took what it popped
-  pub TookPopped : StoreWork N → Type 0
+  abbrev pub TookPopped : StoreWork N → Type 0
   TookPopped w = (driver : ℕ) → taken_by driver w.answers.items ≡ popped_at w.ports.items driver
 
   pub took_popped : (clusters : List SharedValue) (vs ws : List (StoreWork N)) → AllZip (StoreWorked clusters) vs ws → All (λ (w : StoreWork N). w.failed ≡ false) ws → All TookPopped ws
@@ -78,7 +78,7 @@ module _ {N : Type 0} where
     lawful_journal : (driver : ℕ) (cluster : ClusterValue) (seat : SeatValue) → cluster.driver ≡ driver → IsClosed meta ws driver cluster seat → IsHeard metadata seat → IsLawfulJournal (map part_of ws) metadata (journal_of cluster)
     lawful_journal driver cluster seat is closed heard = record {
       legal = closed.legal;
-      served = subst (λ (as : List Actor). All (λ (e : Entry). Contains as e.actor) cluster.entries) (callers_are cluster.driver ws apart) closed.callers;
+      served = subst (λ (actors : List Actor). All (λ (e : Entry). Contains actors e.actor) cluster.entries) (callers_are cluster.driver ws apart) closed.callers;
       kept = ap (λ n. heard_by n (reverse metadata)) (sym closed.driver) ∙ sym heard ∙ closed.answers;
       popped = all_map (λ (part : StorePart). ArePopped cluster.entries part.store (taken_by cluster.driver part.answers)) part_of ws (λ k d low. popped_by cluster driver (get_or ws k d) is (took k d low) (closed.popped k d low));
     }
@@ -138,10 +138,10 @@ module _ {N : Type 0} where
     stores_answer journals clusters vs ws acted.1 (All-tail (λ (x : StoreWork N). x.failed ≡ false) w ws fine) (All-tail (λ (x : StoreWork N). All (OwnMade x) journals) w ws made),
   )
 
-module _ {N B : Type 0} (seats : B → Seats) (board : Board) where
-  abbrev pub driver_lines : DriverWork N B → List DriverLine
-  driver_lines w = w.lines.items
+abbrev pub driver_lines : {N B : Type 0} → DriverWork N B → List DriverLine
+driver_lines w = w.lines.items
 
+module _ {N B : Type 0} (seats : B → Seats) (board : Board) where
   pub drivers_answer : (vs ws : List (DriverWork N B)) (clusters : List ClusterValue) → AllZip (DriverWorked seats board) vs ws → All (λ (w : DriverWork N B). w.failed ≡ false) ws → AllZip IsDriversOwn ws clusters → DriversAnswer (map driver_lines vs) (map driver_part_of ws) (map journal_of clusters)
   drivers_answer [] [] [] worked fine own = tt
   drivers_answer [] [] (c ∷ clusters) worked fine own = absurd own

@@ -1,5 +1,5 @@
 -- What a run leaves is lawful, and answers its tasks.
-use Rattle.std.proofs.Common.{◌≡◌, ℕ, ◌≤◌, List, [], ◌∷◌, ◌++◌, false, length, map, reverse, refl, sym, ap, ◌∙◌, subst}
+use Rattle.std.proofs.Common.{◌≡◌, ℕ, ◌+◌, ◌-◌, List, [], ◌∷◌, ◌++◌, false, length, map, reverse, refl, sym, ap, ◌∙◌, subst}
 use Rattle.std.specs.Prelude.{All, Contains, flat_map}
 use Rattle.std.specs.List.{AllZip}
 use Rattle.std.proofs.lemmas.List.Elements.{All-append}
@@ -40,7 +40,7 @@ pub seats_of_meta : {N : Type 0} (meta : TurnValue) (ws : List (StoreWork N)) (d
 seats_of_meta meta ws drivers spare back all clusters are closed is = subst (AreSeatsOf meta) (sym is) (All-append (λ (s : SeatValue). s.turn ≡ meta) spare back of_spare (closed_seats meta ws 1 clusters back closed))
   where
     of_spare : AreSeatsOf meta spare
-    of_spare = subst (AreSeatsOf meta) (sym are.seats_are) (all_map (λ (s : SeatValue). s.turn ≡ meta) (new_seat meta) _ (λ k d low. refl))
+    of_spare = subst (AreSeatsOf meta) (sym are.seats_are) (all_map (λ (s : SeatValue). s.turn ≡ meta) (new_seat meta) (0 ∷ numbers_from (drivers + 1) (7 - drivers)) (λ k d low. refl))
 
 module _ {N B : Type 0} (name : TableId) (names : List StreamName) (seats : B → Seats) (board : Board) (clients : List ClientLine) (first w : Workers N B) (from : CameFrom name names seats board clients first w) (setup : IsSetup (setup_of board))
     (fine : All (λ (x : DriverWork N B). x.failed ≡ false) w.drivers.items) (too : All (λ (x : ClientWork N). x.failed ≡ false) w.clients.items) (stores_fine : All (λ (x : StoreWork N). x.failed ≡ false) w.stores.items)

@@ -186,7 +186,7 @@ module _ {N B : Type 0} where
       answers = ap (map driver_part) answers;
       benches = benches;
       closed = subst (λ (y : List ClusterValue × List SeatValue). AreClosed meta stores 1 y.0 y.1) (λ i. (sym none i, sym seats i)) tt;
-      own = subst (AllZip IsDriversOwn []) (sym none) tt;
+      own = subst (λ (l : List ClusterValue). AllZip (IsDriversOwn {N = N} {B = B}) [] l) (sym none) tt;
       after = subst (AllZip (After 0) stores) (sym same) (after_none stores);
     }
 

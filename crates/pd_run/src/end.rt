@@ -1,8 +1,7 @@
 // What all workers leave.
-ghost use Rattle.std.specs.Prelude.{◌≡◌, ◌≢◌, ◌<◌, ◌∷◌, ◌++◌, [], ℕ, false, All, Contains, IfNone, IfOk, IfSome, flat_map, length, map};
+ghost use Rattle.std.specs.Prelude.{◌≡◌, ◌≢◌, ◌<◌, ◌∷◌, ◌++◌, [], ℕ, false, All, Contains, IfNone, IfOk, IfSome, OnOk, flat_map, length, map};
 ghost use Rattle.std.specs.List.{AllZip};
 ghost use Rattle.pd_turn.specs.Turns.{AreApart};
-ghost use Rattle.tso_board.specs.Seats.{SeatValue};
 ghost use Rattle.tso_driver.specs.Drivers.{seat_of};
 ghost use Rattle.step_stream.specs.Streams.{EndValue};
 ghost use Rattle.pd_shared.specs.Names.{stream_name};
@@ -109,6 +108,16 @@ fn close<N: ClusterName, R: Wait>(
     })
 }
 
+// The benches with one more, if the driver had one.
+fn hand_back<B: Drop>(benches: &mut Vec<B>, bench: Option<B>) -> Result<(), NoMemory>
+    ensures items { OnOk result (benches.new.items ≡ benches.old.items ++ lent bench) }
+{
+    if let Some(bench) = bench {
+        benches.push(bench)?;
+    }
+    Ok(())
+}
+
 /// What all drivers leave: their seats at the oracle and at the metadata, their answers, their clusters,
 /// and their benches; and the stores, without their ports to these clusters.
 #[derive(Drop)]
@@ -162,9 +171,7 @@ impl<N: ClusterName, B: Drop> DriverParts<N, B> {
         parts.meta.push(seat)?;
         parts.oracle.push(driver.into_seat())?;
         parts.answers.push(DriverAnswers { number, answers })?;
-        if let Some(bench) = bench {
-            parts.benches.push(bench)?;
-        }
+        hand_back(&mut parts.benches, bench)?;
         Ok(parts)
     }
 }
