@@ -2,7 +2,7 @@
 use Rattle.std.proofs.Common.{◌≡◌, ℕ, ◌+◌, ◌-◌, List, [], ◌∷◌, ◌++◌, false, length, map, reverse, refl, sym, ap, ◌∙◌, subst}
 use Rattle.std.specs.Prelude.{All, Contains, flat_map}
 use Rattle.std.specs.List.{AllZip}
-use Rattle.std.proofs.lemmas.List.Elements.{All-append}
+use Rattle.std.proofs.lemmas.List.Elements.{All-append, All-cons, All-head, All-nil, All-tail}
 use Rattle.atomic_table.specs.Seated.{TableId}
 use Rattle.pd_turn.specs.Turns.{AreApart, TurnValue}
 use Rattle.sched_api.specs.Benches.{Seats}
@@ -34,6 +34,15 @@ use Rattle.pd_run.proofs.Finishing.{called, numbered_clients, numbered_drivers, 
 use Rattle.pd_run.proofs.Judging.{benches_heard, closed_numbers, closed_seats, driver_lines, drivers_answer, lawful_journals, store_lines, stores_answer, stores_made, took_popped}
 use Rattle.pd_run.proofs.Leading.{zip_length}
 use Rattle.pd_run.proofs.Spare.{alone}
+
+-- what is true of all is true of those at the front, and of those behind
+pub all_front : {A : Type 0} (P : A → Type 0) (xs ys : List A) → All P (xs ++ ys) → All P xs
+all_front P [] ys all = All-nil P
+all_front P (x ∷ xs) ys all = All-cons P x xs (All-head P x (xs ++ ys) all) (all_front P xs ys (All-tail P x (xs ++ ys) all))
+
+pub all_behind : {A : Type 0} (P : A → Type 0) (xs ys : List A) → All P (xs ++ ys) → All P ys
+all_behind P [] ys all = all
+all_behind P (x ∷ xs) ys all = all_behind P xs ys (All-tail P x (xs ++ ys) all)
 
 -- the seats that come back are those of the metadata
 pub seats_of_meta : {N : Type 0} (meta : TurnValue) (ws : List (StoreWork N)) (drivers : ℕ) (spare back all : List SeatValue) (clusters : List ClusterValue) → AreSpareSeats meta drivers spare → AreClosed meta ws 1 clusters back → all ≡ spare ++ back → AreSeatsOf meta all
