@@ -11,6 +11,7 @@ use Rattle.tso_board.specs.Actors.{driver_view}
 use Rattle.tso_board.specs.Boards.{setup_of}
 use Rattle.tso_board.specs.Seats.{IsSeatOf, seat_view}
 use Rattle.tso_model.specs.declared.view.View.{View}
+use Rattle.tso_run.proofs.Rows.{row_length, rows_length}
 use Rattle.meta_store.specs.Seats.{AreOpened, SeatValue, new_seat}
 use Rattle.pd_shared.specs.Names.{StreamName, stream_name, streams_of}
 use Rattle.pd_run.specs.Crews.{AreStarts, IsStart}
@@ -19,6 +20,14 @@ use Rattle.pd_run.specs.Starts.{AreHandedOut, AreNewSeats, AreSpareSeats, turn_o
 use Rattle.pd_run.specs.declared.begin.Start.{Start}
 use Rattle.pd_run.specs.declared.pipe.Pipe.{Pipe}
 use Rattle.pd_run.proofs.Starting.{head_or, rest_of}
+
+-- a seat for each driver
+pub seats_count : (board : Board) (seats : List DriverSeat) → map seat_view seats ≡ map (driver_view (setup_of board)) (numbers_from 1 (setup_of board).drivers) → length seats ≡ (setup_of board).drivers
+seats_count board seats views =
+    let e : length (map seat_view seats) ≡ length (map (driver_view (setup_of board)) (numbers_from 1 (setup_of board).drivers)) = ap length views in
+    let a = rows_length seat_view seats in
+    let b = row_length (driver_view (setup_of board)) 1 (setup_of board).drivers in
+    omega (arith, e, a, b)
 
 -- STREAMS
 -- the streams of one driver's pipes are all of that driver, and of no other

@@ -5,10 +5,13 @@ use Rattle.pd_run.specs.Pipes.{names_from}
 use Rattle.pd_run.specs.Starts.{turn_of_seats}
 use Rattle.pd_run.proofs.runner.run.Given as goal
 
--- the board that was handed in, and the metadata and the streams that were opened
-abbrev pub ghosts-run_named : goal.ghosts-run_named
-ghosts-run_named g a = record {
-  board = board_id a.crew.board;
+-- the board that was handed in
+abbrev pub ghosts-run_named-N-BoardName : goal.ghosts-run_named-N-BoardName
+ghosts-run_named-N-BoardName g a = record { board = board_id a.crew.board }
+
+-- the metadata and the streams that were opened
+abbrev pub ghosts-run_named-N-ClusterName : goal.ghosts-run_named-N-ClusterName
+ghosts-run_named-N-ClusterName g a = record {
   meta = turn_of_seats no_meta a.metas.seats.items;
   streams = names_from 1 (map (λ one. one.items) a.pipes.items);
 }
