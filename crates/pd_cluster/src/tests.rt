@@ -435,7 +435,7 @@ fn a_storm_of_refused_draws_moves_the_cursor_64_milliseconds(rt: HostRuntime) ->
 const BEAT: &str = "beat 1 1 1000 7 - - 1 1 11 11:1:v\n";
 
 // A region is checked, and its heartbeat comes 64 times more; then its store takes what waits for it.
-fn crowd(alloc: Global) -> Result<String, Fail> {
+pub fn crowd(alloc: Global) -> Result<String, Fail> {
     let mut script = String::new(alloc);
     script.push_str("lead 1 1000\nhello 1 1 1000 a1\nhello 2 1 1000 a2\n")?;
     write!(script, "{BEAT}check 1 1000 7\n")?;
@@ -450,7 +450,7 @@ fn crowd(alloc: Global) -> Result<String, Fail> {
 }
 
 // Its answers: each heartbeat sends the step again. The 65th of the steps that are sent isn't kept.
-fn crowd_answers(alloc: Global) -> Result<String, Fail> {
+pub fn crowd_answers(alloc: Global) -> Result<String, Fail> {
     let step = "add-learner peer 1000001 store 2";
     let mut answers = String::new(alloc);
     answers.push_str("1 won term 1 lo 1000 hi 4000\n2 store put\n3 store put\n")?;
