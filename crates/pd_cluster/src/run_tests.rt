@@ -294,6 +294,60 @@ meta
 post
 ";
 
+// The same, where the first driver finds the later term at its next save (examples/lost_term_on_threads.txt).
+const LOST_TERM: &str = "\
+lead 1 1000
+hello 1 1 1000 a1
+take 1 1 3
+lead 2 500
+hello 2 2 501 a3
+take 1 1 2
+alive 1 1 1001
+hello 1 1 1002 a2
+tick 1 3999
+alive 1 1 4000
+take 2 1 1
+";
+
+const LOST_TERM_OUTCOME: &str = "\
+window 1 1 1000 4000
+window 2 2 4001 7001
+driver 1
+1 won term 1 lo 1000 hi 4000
+9 lost saved 7001 term 2
+driver 2
+4 won term 2 lo 4001 hi 7001
+client 1
+3 got term 1 driver 1 first 262144001 last 262144003
+6 got term 1 driver 1 first 262144004 last 262144005
+client 2
+11 not-leader
+store 1
+2 store put
+7 alive
+8 old-term 2
+10 not-leading
+store 2
+5 store put
+journal 1
+1 line 1 term 1 stores 0 rules 1
+2 line 2 store put
+3 line 7 alive
+4 line 8 old-term 2
+5 line 9 retired
+6 line 10 not-leading
+journal 2
+1 line 4 term 2 stores 1 rules 1
+2 line 5 store put
+meta
+1 driver 1 lead 1 accepted 0
+2 driver 1 put 1 store/00000000000000000001 accepted 1
+3 driver 2 lead 2 accepted 1
+4 driver 2 put 2 store/00000000000000000002 accepted 2
+5 driver 1 put 1 store/00000000000000000001 old-term 2
+post
+";
+
 // A step is sent again at a heartbeat, and the leader's store takes both.
 pub const STEPS: &str = "\
 lead 1 1000
@@ -339,6 +393,7 @@ fn outcomes_of_lines_in_their_order_are_as_worked_out(rt: HostRuntime) -> Result
     let rows = [
         (TWO_DRIVERS, TWO_DRIVERS_OUTCOME),
         (BEHIND_ITS_BACK, BEHIND_ITS_BACK_OUTCOME),
+        (LOST_TERM, LOST_TERM_OUTCOME),
         (STEPS, STEPS_OUTCOME),
     ];
     for (script, outcome) in rows {

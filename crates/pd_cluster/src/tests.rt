@@ -62,7 +62,7 @@ fn expect<R: Threads + Wait + Sync + Abort>(
 }
 
 // Worked rows. In each line an act stands in front of `>` and its answer.
-pub const ROWS: [&str; 31] = [
+pub const ROWS: [&str; 32] = [
     "\
 lead 1 1000 > won term 1 lo 1000 hi 4000
 hello 1 1 1000 a1 > store put
@@ -235,6 +235,19 @@ take 1 1 1 > got term 2 driver 1 first 1048838145 last 1048838145
 tick 1 4002 > idle
 tick 1 4003 > moved next 4003 hi 7001
 take 1 1 1 > got term 2 driver 1 first 1049362433 last 1049362433",
+    // examples/lost_term_on_threads.txt
+    "\
+lead 1 1000 > won term 1 lo 1000 hi 4000
+hello 1 1 1000 a1 > store put
+take 1 1 3 > got term 1 driver 1 first 262144001 last 262144003
+lead 2 500 > won term 2 lo 4001 hi 7001
+hello 2 2 501 a3 > store put
+take 1 1 2 > got term 1 driver 1 first 262144004 last 262144005
+alive 1 1 1001 > alive
+hello 1 1 1002 a2 > old-term 2
+tick 1 3999 > lost saved 7001 term 2
+alive 1 1 4000 > not-leading
+take 2 1 1 > not-leader",
     // examples/stale_heartbeat.txt
     "\
 lead 1 1000 > won term 1 lo 1000 hi 4000
