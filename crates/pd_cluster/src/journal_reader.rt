@@ -143,6 +143,7 @@ pub struct Journals<'a> {
 }
 
 impl<'a> Journals<'a> {
+    /// No entries and no calls.
     pub fn new(alloc: Global) -> Journals<'a> {
         Journals {
             served: Vec::new(alloc),
