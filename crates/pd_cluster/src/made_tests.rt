@@ -96,7 +96,7 @@ fn push_all_made(text: &mut String, x: u64, drivers: u64) -> Result<(), Fail> {
     let mut place = x / 8_796_093_022_208 % 24;
     for line in 0..24 {
         x = next(x);
-        place = (place + stride) % 24;
+        place = place.saturating_add(stride) % 24;
         push_made(text, FORMS[place as usize], x, line, drivers)?;
     }
     Ok(())
