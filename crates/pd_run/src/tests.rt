@@ -1,7 +1,9 @@
 // What a cluster is asked besides, and runs of two drivers, a client and two stores whose gate fixes the
 // order of all lines. The expected answers are worked out by hand.
-ghost use Rattle.std.specs.Prelude.{◌≡◌, ◌∷◌, [], IfOk, length, map};
-ghost use Rattle.pd_run.specs.Tasks.{AreTasks};
+ghost use Rattle.std.specs.Prelude.{◌≡◌, ◌∷◌, All, IfOk, length, map};
+ghost use Rattle.pd_turn.specs.Turns.{AreApart};
+ghost use Rattle.tso_run.specs.Lines.{IsCall};
+ghost use Rattle.pd_run.specs.Tasks.{AreTasks, GoesTo};
 
 use crate::{
     DriverAnswer, DriverLine, DriverSays, DriverTask, Left, StoreAnswer, StoreLine, StoreLines,
@@ -118,7 +120,7 @@ fn check(number: u32) -> DriverLine {
 
 // A line of a store at the first driver's cluster.
 fn at_first(number: u32, task: StoreTask) -> StoreLine
-    ensures driver { result.driver ≡ 1 }
+    ensures goes { GoesTo 2 result }
 {
     StoreLine {
         number,
@@ -128,7 +130,7 @@ fn at_first(number: u32, task: StoreTask) -> StoreLine
 }
 
 fn hello(alloc: Global, number: u32, store: u64) -> Result<StoreLine, NoMemory>
-    ensures driver { IfOk result (λ line. line.driver ≡ 1) }
+    ensures goes { IfOk result (GoesTo 2) }
 {
     let request = Request::Hello {
         store,
@@ -160,7 +162,7 @@ fn region(alloc: Global) -> Result<Region, NoMemory> {
 }
 
 fn beat(alloc: Global, number: u32) -> Result<StoreLine, NoMemory>
-    ensures driver { IfOk result (λ line. line.driver ≡ 1) }
+    ensures goes { IfOk result (GoesTo 2) }
 {
     let beat = RegionBeat {
         region: region(alloc)?,
@@ -178,7 +180,8 @@ fn beat(alloc: Global, number: u32) -> Result<StoreLine, NoMemory>
 
 // The first store reports the region of which it has the leader, and takes a step; the second says hello.
 fn acting(alloc: Global) -> Result<Vec<StoreLines>, NoMemory>
-    ensures ids { IfOk result (λ stores. map (λ (s : StoreLines). s.store) stores.items ≡ 1 ∷ 2 ∷ []) }
+    ensures apart { IfOk result (λ stores. AreApart (0 ∷ map (λ (s : StoreLines). s.store) stores.items)) }
+    ensures within { IfOk result (λ stores. All (λ (s : StoreLines). All (GoesTo 2) s.lines.items) stores.items) }
 {
     let mut first = Vec::new(alloc);
     first.push(hello(alloc, 2, 1)?)?;
@@ -198,9 +201,9 @@ fn acting(alloc: Global) -> Result<Vec<StoreLines>, NoMemory>
     Ok(stores)
 }
 
-// The first driver leads, and checks the region, which lacks two voters; a client draws; the second leads.
-fn tasks(alloc: Global) -> Result<Tasks, NoMemory>
-    ensures tasks { IfOk result (AreTasks (record { drivers = 2; clients = 1; cell = record { saved = 0; term = 0 } })) }
+// The first driver leads, and checks the region, which lacks two voters; then the second leads.
+fn driving(alloc: Global) -> Result<Vec<Vec<DriverLine>>, NoMemory>
+    ensures both { IfOk result (λ drivers. length drivers.items ≡ 2) }
 {
     let mut first = Vec::new(alloc);
     first.push(lead(1, 1000))?;
@@ -210,15 +213,28 @@ fn tasks(alloc: Global) -> Result<Tasks, NoMemory>
     let mut drivers = Vec::new(alloc);
     drivers.push(first)?;
     drivers.push(second)?;
-    let mut clients = Vec::new(alloc);
-    clients.push(ClientLine {
+    Ok(drivers)
+}
+
+// The client draws at the first driver.
+fn calling(alloc: Global) -> Result<Vec<ClientLine>, NoMemory>
+    ensures calls { IfOk result (λ lines. All (λ line. IsCall (record { drivers = 2; clients = 1; cell = record { saved = 0; term = 0 } }) line.ask) lines.items) }
+{
+    let mut lines = Vec::new(alloc);
+    lines.push(ClientLine {
         number: 7,
         client: 1,
         ask: ClientAsk::Take { driver: 1, n: 3 },
     })?;
+    Ok(lines)
+}
+
+fn tasks(alloc: Global) -> Result<Tasks, NoMemory>
+    ensures tasks { IfOk result (AreTasks (record { drivers = 2; clients = 1; cell = record { saved = 0; term = 0 } })) }
+{
     Ok(Tasks {
-        drivers,
-        clients,
+        drivers: driving(alloc)?,
+        clients: calling(alloc)?,
         stores: acting(alloc)?,
     })
 }
