@@ -34,14 +34,27 @@ struct Served<'a> {
     told: &'a str,
 }
 
-// A driver's call to the metadata: `lead`, `put` or `delete`, with its term, its verdict and that one's number.
+// A driver's call to the metadata: `lead`, `put` or `delete`, with its term, the key that is written, its verdict and that one's number.
 #[derive(Drop)]
 struct Call<'a> {
     driver: u64,
     asked: &'a str,
     term: u64,
+    key: &'a str,
     verdict: &'a str,
     number: u64,
+}
+
+impl<'a> Call<'a> {
+    // The store whose record is written.
+    fn store(&self) -> Option<u64> {
+        let (kind, id) = self.key.split_once('/')?;
+        if kind == "store" {
+            id.parse::<u64>().ok()
+        } else {
+            None
+        }
+    }
 }
 
 // The line makes an entry: a request to a cluster, and a term that begins or ends.
@@ -79,6 +92,49 @@ fn wins(answers: &[Answer], line: u64) -> bool {
         .any(|one| one.line == line && one.said.word == "won")
 }
 
+// An entry that tells a step which it sent. A check of all regions tells none.
+fn tells_step(entry: &Served) -> bool {
+    entry.told.contains("send ")
+}
+
+// The store of the leader that a region's heartbeat names, `beat S D NOW R START END CONF VERSION LEADER PEERS`.
+fn leader_store(beat: &str) -> u64 {
+    for peer in word(beat, 10).split(',') {
+        let mut parts = peer.split(':');
+        if parts.next() == Some(word(beat, 9)) {
+            return parts.next().unwrap_or("").parse::<u64>().unwrap_or(0);
+        }
+    }
+    0
+}
+
+// The region of the step that an entry tells: that of the line, or of the proposal `scheduler NAME KIND region R`.
+fn region_of(one: &Answer, entry: &Served) -> u64 {
+    match one.asked.word {
+        "beat" => number(one.request, 4),
+        "check" => number(one.request, 3),
+        "ctl" => number(one.request, 6),
+        _ => number(entry.told, 4),
+    }
+}
+
+// The store of a `hello` line's entry that wrote its record, or was refused by the metadata.
+fn hello_store(answers: &[Answer], entry: &Served) -> Option<u64> {
+    let one = answers.iter().find(|one| one.line == entry.line)?;
+    let wrote = matches!(word(entry.told, 0), "store" | "old-term" | "conflict");
+    if one.asked.word == "hello" && wrote {
+        Some(one.actor)
+    } else {
+        None
+    }
+}
+
+// A line that may write the record of another store.
+fn writes_others(one: &Answer) -> bool {
+    let buries = one.said.word == "patrol" && !one.text.ends_with("buried 0");
+    buries || one.request.contains("store delete")
+}
+
 // The journals of the clusters, from the first driver's on, and that of the metadata.
 #[derive(Drop)]
 pub struct Journals<'a> {
@@ -87,6 +143,7 @@ pub struct Journals<'a> {
 }
 
 impl<'a> Journals<'a> {
+    /// No entries and no calls.
     pub fn new(alloc: Global) -> Journals<'a> {
         Journals {
             served: Vec::new(alloc),
@@ -126,6 +183,7 @@ impl<'a> Journals<'a> {
             driver: number(line, 2),
             asked,
             term: number(line, 4),
+            key: if asked == "lead" { "" } else { word(line, 5) },
             verdict: word(verdict, 0),
             number: number(verdict, 1),
         })?;
@@ -283,6 +341,128 @@ impl<'a> Journals<'a> {
         true
     }
 
+    // The store to which the entry's step goes: the one of the region's leader, by its last accepted heartbeat.
+    fn sent_to(&self, answers: &[Answer], sender: &Served) -> u64 {
+        let Some(one) = answers.iter().find(|one| one.line == sender.line) else {
+            return 0;
+        };
+        let region = region_of(one, sender);
+        let mut store = 0;
+        for entry in &self.served {
+            let accepted = word(entry.told, 0) == "accepted";
+            if !accepted || entry.driver != sender.driver || entry.place > sender.place {
+                continue;
+            }
+            let beat = answers.iter().find(|one| one.line == entry.line);
+            let beat = beat.map(|one| one.request).unwrap_or("");
+            if number(beat, 4) == region {
+                store = leader_store(beat);
+            }
+        }
+        store
+    }
+
+    // The place of the entry that sent the store of this answer the step behind so many others.
+    fn sender(&self, answers: &[Answer], one: &Answer, before: usize) -> Option<u64> {
+        let mut left = before;
+        for entry in &self.served {
+            let own = entry.driver == one.driver && tells_step(entry);
+            if !own || self.sent_to(answers, entry) != one.actor {
+                continue;
+            }
+            if left == 0 {
+                return Some(entry.place);
+            }
+            left = left.saturating_sub(1);
+        }
+        None
+    }
+
+    // The step was sent by an entry that tells it.
+    fn is_told(&self, one: &Answer) -> bool {
+        let place = number(one.text, 4);
+        self.served.iter().any(|entry| {
+            entry.driver == one.driver && entry.place == place && tells_step(entry)
+        })
+    }
+
+    // No step is passed over while no more were sent than a stream has room for.
+    fn none_is_left_out(&self, answers: &[Answer]) -> bool {
+        if self.served.iter().filter(|entry| tells_step(entry)).count() > 64 {
+            return true;
+        }
+        for (place, one) in answers.iter().enumerate() {
+            if one.asked.word != "pop" || one.said.word != "popped" || !self.is_told(one) {
+                continue;
+            }
+            let mut before = 0usize;
+            for other in answers.iter().take(place) {
+                let same = other.actor == one.actor && other.driver == one.driver;
+                let popped = other.asked.word == "pop" && other.said.word == "popped";
+                if same && popped && self.is_told(other) {
+                    before = before.saturating_add(1);
+                }
+            }
+            if self.sender(answers, one, before) != Some(number(one.text, 4)) {
+                return false;
+            }
+        }
+        true
+    }
+
+    // The entry that wrote a store's record for a `hello` line, or was refused, behind so many others of this driver.
+    fn hello(&self, answers: &[Answer], driver: u64, before: usize) -> Option<(u64, &'a str)> {
+        let mut left = before;
+        for entry in &self.served {
+            let Some(store) = hello_store(answers, entry) else {
+                continue;
+            };
+            if entry.driver == driver {
+                if left == 0 {
+                    return Some((store, entry.told));
+                }
+                left = left.saturating_sub(1);
+            }
+        }
+        None
+    }
+
+    // The call wrote the record of the store that said hello, in the order of its driver's journal, and was answered what the store was.
+    fn is_hello_call(&self, answers: &[Answer], call: &Call, place: usize) -> bool {
+        let own = |other: &&Call| other.driver == call.driver && other.store().is_some();
+        let before = self.calls.iter().take(place).filter(own).count();
+        let Some((store, told)) = self.hello(answers, call.driver, before) else {
+            return false;
+        };
+        let fits = match call.verdict {
+            "accepted" => told == "store put",
+            verdict => word(told, 0) == verdict && number(told, 1) == call.number,
+        };
+        fits && call.store() == Some(store)
+    }
+
+    // Each `hello` line that wrote made its call, where nothing else writes a store's record.
+    fn hellos_are_written(&self, answers: &[Answer]) -> bool {
+        if answers.iter().any(writes_others) {
+            return true;
+        }
+        let mut written = 0usize;
+        for (place, call) in self.calls.iter().enumerate() {
+            if call.store().is_none() {
+                continue;
+            }
+            if !self.is_hello_call(answers, call, place) {
+                return false;
+            }
+            written = written.saturating_add(1);
+        }
+        let said = self
+            .served
+            .iter()
+            .filter(|entry| hello_store(answers, entry).is_some());
+        written == said.count()
+    }
+
     /// Whether they are those of a run with these answers.
     pub fn are_lawful(&self, answers: &[Answer]) -> bool {
         self.entries_are(answers)
@@ -291,5 +471,7 @@ impl<'a> Journals<'a> {
             && self.calls_are()
             && self.leads_are(answers)
             && self.pops_are(answers)
+            && self.none_is_left_out(answers)
+            && self.hellos_are_written(answers)
     }
 }

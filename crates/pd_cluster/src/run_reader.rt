@@ -1,5 +1,5 @@
-// A reader of what `run` prints, which says whether it is the text of a lawful run of a script without a `cell` line. It knows the
-// rules in plain words, and nothing of the program.
+// A reader of what `run` prints, which says whether it is the text of a lawful run of a script. It knows the rules in plain words, and
+// nothing of the program.
 use crate::journal_reader::{Journals, behind};
 use std::alloc::{AllocError, AllocFailed, Global};
 
@@ -64,6 +64,7 @@ pub struct Answer<'a> {
     pub actor: u64,
     pub line: u64,
     pub driver: u64,
+    pub request: &'a str,
     pub asked: Words<'a>,
     pub said: Words<'a>,
     pub text: &'a str,
@@ -133,9 +134,11 @@ struct Entry<'a> {
     what: &'a str,
 }
 
-/// What was printed: `window T D LO HI` for each window, the answers, the journals of the clusters and of the metadata, and the post.
+/// What was printed: `window T D LO HI` for each window, the answers, the journals of the clusters and of the metadata, and the post;
+/// with the opening cell's term and saved time.
 #[derive(Drop)]
 pub struct Printed<'a> {
+    opened: (u64, u64),
     windows: Vec<Words<'a>>,
     answers: Vec<Answer<'a>>,
     journals: Journals<'a>,
@@ -185,6 +188,24 @@ fn named(asked: &Words) -> u64 {
     }
 }
 
+// The term and the saved time of the opening cell.
+fn opening(alloc: Global, script: &str) -> Result<(u64, u64), Unread> {
+    let first = Words::of(alloc, script.lines().next().unwrap_or(""))?;
+    if first.word == "cell" {
+        Ok((first.at(1), first.at(0)))
+    } else {
+        Ok((0, 0))
+    }
+}
+
+// How many lines have an answer.
+fn answered(script: &str) -> usize {
+    script
+        .lines()
+        .filter(|line| !line.starts_with("cell"))
+        .count()
+}
+
 // The answer on this line, whose actor's last one is given.
 fn read_answer<'a>(
     alloc: Global,
@@ -196,10 +217,10 @@ fn read_answer<'a>(
     let said = Words::of(alloc, line)?;
     let (section, actor) = head;
     let number = said.at(0);
-    let Some(asked) = script.lines().nth(number.saturating_sub(1) as usize) else {
+    let Some(request) = script.lines().nth(number.saturating_sub(1) as usize) else {
         return Err(Unread("no such line"));
     };
-    let asked = Words::of(alloc, asked)?;
+    let asked = Words::of(alloc, request)?;
     if asked.at(0) != actor || section_of(asked.word) != section {
         return Err(Unread("another's line"));
     }
@@ -218,6 +239,7 @@ fn read_answer<'a>(
         actor,
         line: number,
         driver,
+        request,
         asked,
         said,
         text: behind(line, 1),
@@ -229,6 +251,7 @@ impl<'a> Printed<'a> {
     /// Reads the sections in their order, each line of the script once, in its actor's section.
     pub fn read(alloc: Global, script: &'a str, text: &'a str) -> Result<Printed<'a>, Unread> {
         let mut printed = Printed {
+            opened: opening(alloc, script)?,
             windows: Vec::new(alloc),
             answers: Vec::new(alloc),
             journals: Journals::new(alloc),
@@ -253,7 +276,7 @@ impl<'a> Printed<'a> {
             }
         }
         let drivers = printed.answers.iter().map(|one| named(&one.asked)).max();
-        if printed.answers.len() != script.lines().count() || head.0 != POST {
+        if printed.answers.len() != answered(script) || head.0 != POST {
             return Err(Unread("a line or a section is missing"));
         }
         if journals != drivers.unwrap_or(1).max(1) {
@@ -289,7 +312,7 @@ impl<'a> Printed<'a> {
 
     // The windows follow one another, each of a later term and behind the end of the one before.
     fn windows_follow(&self) -> bool {
-        let mut before = (0, 0);
+        let mut before = self.opened;
         for window in &self.windows {
             let (term, lo, hi) = (window.at(0), window.at(2), window.at(3));
             if term <= before.0 || lo < before.1 || hi <= lo {
@@ -304,7 +327,7 @@ impl<'a> Printed<'a> {
     fn won(&self, one: &Answer) -> bool {
         let (now, term) = (one.asked.at(1), one.said.at(1));
         let (lo, hi) = (one.said.at(2), one.said.at(3));
-        let mut end = 0u64;
+        let mut end = self.opened.1;
         for window in &self.windows {
             if window.at(0) == term {
                 let own = window.at(1) == one.actor && window.at(2) == lo && hi <= window.at(3);

@@ -62,7 +62,7 @@ fn expect<R: Threads + Wait + Sync + Abort>(
 }
 
 // Worked rows. In each line an act stands in front of `>` and its answer.
-pub const ROWS: [&str; 31] = [
+pub const ROWS: [&str; 32] = [
     "\
 lead 1 1000 > won term 1 lo 1000 hi 4000
 hello 1 1 1000 a1 > store put
@@ -235,6 +235,19 @@ take 1 1 1 > got term 2 driver 1 first 1048838145 last 1048838145
 tick 1 4002 > idle
 tick 1 4003 > moved next 4003 hi 7001
 take 1 1 1 > got term 2 driver 1 first 1049362433 last 1049362433",
+    // examples/lost_term_on_threads.txt
+    "\
+lead 1 1000 > won term 1 lo 1000 hi 4000
+hello 1 1 1000 a1 > store put
+take 1 1 3 > got term 1 driver 1 first 262144001 last 262144003
+lead 2 500 > won term 2 lo 4001 hi 7001
+hello 2 2 501 a3 > store put
+take 1 1 2 > got term 1 driver 1 first 262144004 last 262144005
+alive 1 1 1001 > alive
+hello 1 1 1002 a2 > old-term 2
+tick 1 3999 > lost saved 7001 term 2
+alive 1 1 4000 > not-leading
+take 2 1 1 > not-leader",
     // examples/stale_heartbeat.txt
     "\
 lead 1 1000 > won term 1 lo 1000 hi 4000
@@ -435,7 +448,7 @@ fn a_storm_of_refused_draws_moves_the_cursor_64_milliseconds(rt: HostRuntime) ->
 const BEAT: &str = "beat 1 1 1000 7 - - 1 1 11 11:1:v\n";
 
 // A region is checked, and its heartbeat comes 64 times more; then its store takes what waits for it.
-fn crowd(alloc: Global) -> Result<String, Fail> {
+pub fn crowd(alloc: Global) -> Result<String, Fail> {
     let mut script = String::new(alloc);
     script.push_str("lead 1 1000\nhello 1 1 1000 a1\nhello 2 1 1000 a2\n")?;
     write!(script, "{BEAT}check 1 1000 7\n")?;
@@ -450,7 +463,7 @@ fn crowd(alloc: Global) -> Result<String, Fail> {
 }
 
 // Its answers: each heartbeat sends the step again. The 65th of the steps that are sent isn't kept.
-fn crowd_answers(alloc: Global) -> Result<String, Fail> {
+pub fn crowd_answers(alloc: Global) -> Result<String, Fail> {
     let step = "add-learner peer 1000001 store 2";
     let mut answers = String::new(alloc);
     answers.push_str("1 won term 1 lo 1000 hi 4000\n2 store put\n3 store put\n")?;

@@ -10,6 +10,8 @@ mod pipe;
 mod runner;
 mod shared;
 mod storing;
+#[cfg(test)]
+mod tests;
 
 pub use answer::{
     DriverAnswer, DriverAnswers, DriverSays, StoreAnswer, StoreAnswers, StoreSays, asked_besides,
