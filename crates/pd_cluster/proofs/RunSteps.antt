@@ -150,8 +150,8 @@ module _ (run : Run) (lawful : IsLawful run) where
       let is = sent_in j.driver (reverse j.entries) by.entry m (legal_of j one) (in_reverse j.entries by.entry by.here) by.sends in
       (by.to, is.driver ∙ same, record { journal = j; one = one; driver_is = same; holds = is.sent })
 
-  module _ (drivers : ℕ) (any : (d : ℕ) → 0 < d → d ≤ drivers → (j : Journal) × Contains run.journals j × (j.driver ≡ d)) where
-    store_part_tells : (lines : ℕ × List StoreLine) (p : StorePart) → Contains run.stores p → All (GoesTo drivers) lines.1 → StoreAnswersLines run.journals lines p
+  module _ (count : ℕ) (any : (d : ℕ) → 0 < d → d ≤ count → (j : Journal) × Contains run.journals j × (j.driver ≡ d)) where
+    store_part_tells : (lines : ℕ × List StoreLine) (p : StorePart) → Contains run.stores p → All (GoesTo count) lines.1 → StoreAnswersLines run.journals lines p
         → All (λ (a : StoreAnswer). StoreTellsSafely run.journals p.store a.driver a.line a.says) p.answers
     store_part_tells lines p part goes ans =
         let told = ans.answered in
@@ -165,7 +165,7 @@ module _ (run : Run) (lawful : IsLawful run) where
         one_turn turn has =
             let told = ans.answered in
             let line_has : Contains lines.1 turn.line = subst (λ (ls : List StoreLine). Contains ls turn.line) told.lines_are (to_map (λ (t : StoreTurn). t.line) told.turns turn has) in
-            let to = All-contains (GoesTo drivers) lines.1 turn.line goes line_has in
+            let to = All-contains (GoesTo count) lines.1 turn.line goes line_has in
             let found = any turn.line.driver to.0 to.1 in
             let j : Journal = found.0 in
             let same : turn.line.driver ≡ j.driver = sym found.2 in
@@ -179,7 +179,7 @@ module _ (run : Run) (lawful : IsLawful run) where
             (λ m took. popped_sent j.entries p.store (taken_by j.driver p.answers) m popped (taken_here j.driver p.answers (store_answer turn) m answer_has same took))
             (All-contains IsStoreTurn told.turns turn told.did has)
 
-    stores_tell : (script : Script) (ids : List ℕ) (parts : List StorePart) → ((s : ℕ) → All (GoesTo drivers) (lines_of_store s script.lines)) → ((p : StorePart) → Contains parts p → Contains run.stores p)
+    stores_tell : (script : Script) (ids : List ℕ) (parts : List StorePart) → ((s : ℕ) → All (GoesTo count) (lines_of_store s script.lines)) → ((p : StorePart) → Contains parts p → Contains run.stores p)
         → AllZip (StoreAnswersLines run.journals) (lines_of_stores ids script) parts → All (λ (p : StorePart). All (λ (a : StoreAnswer). StoreTellsSafely run.journals p.store a.driver a.line a.says) p.answers) parts
     stores_tell script [] [] goes within zip = All-nil (λ (p : StorePart). All (λ (a : StoreAnswer). StoreTellsSafely run.journals p.store a.driver a.line a.says) p.answers)
     stores_tell script (s ∷ ids) (p ∷ parts) goes within zip =
