@@ -1,6 +1,7 @@
 -- How a run ends, from what was to be written.
 use Rattle.std.proofs.Common.{◌≢◌, inr, ℕ, List, Option, refl}
-use Rattle.pd_cluster.specs.Outcome.{Answers, Benches, Ends}
+use Rattle.pd_cluster.specs.Outcome.{Answers, Ends}
+use Rattle.pd_cluster.specs.Talks.{Benches}
 use Rattle.pd_cluster.specs.declared.command.Command.{Command}
 use Rattle.pd_cluster.specs.declared.status.Status.{Status}
 use Rattle.pd_cluster.specs.declared.status.Status.TheVariants.{Done, Usage, Refused, ReadFault, WriteFault, NoMemory, Limit}

@@ -216,7 +216,7 @@ ends_last A P other (ended value at) none h = h
 ends_last A P other (waits call) none h = absurd cc
 
 -- ALL REPLIES
-none_at_all : (said : List Heeded) → length said ≤ 0 → [] ≡ said
+pub none_at_all : (said : List Heeded) → length said ≤ 0 → [] ≡ said
 none_at_all [] few = refl
 none_at_all (one ∷ said) few = absurd (omega (arith, few))
 
@@ -256,7 +256,7 @@ one_turn_few [] = omega arith
 one_turn_few (name ∷ names) = omega arith
 
 -- a reply that heard a bench tells of just what it said
-reply_heeds : (driver : ℕ) (part : Option Part) (request : Request) (heard : Heard) → length heard.bench ≤ turns_of part request heard.names → next_call part request heard.bench heard.answers ≡ None
+pub reply_heeds : (driver : ℕ) (part : Option Part) (request : Request) (heard : Heard) → length heard.bench ≤ turns_of part request heard.names → next_call part request heard.bench heard.answers ≡ None
     → heeded (first_reply driver part request heard) ≡ heard.bench
 reply_heeds driver (Some part) (ask.Schedule moment) heard few last =
     ends_last Deed (Heeds heard.bench) (idle (around_at part moment) (planning_of part) replies.NotLeading) (schedule_of part moment heard.bench (hearing part.known heard.answers)) last
@@ -284,7 +284,7 @@ reply_heeds driver None (ask.Patrol moment workers) heard few last = none_at_all
 reply_heeds driver None (ask.Ctl moment words) heard few last = none_at_all heard.bench few
 
 -- no call comes behind the last answer
-asked_end : (next : List MetaAnswer → Option MetaCall) (before answers : List MetaAnswer) → AreAsked next before answers → next (before ++ answers) ≡ None
+pub asked_end : (next : List MetaAnswer → Option MetaCall) (before answers : List MetaAnswer) → AreAsked next before answers → next (before ++ answers) ≡ None
 asked_end next before [] asked = ap next (append-nil before) ∙ asked
 asked_end next before (a ∷ answers) asked = ap next (sym (append_assoc before (a ∷ []) answers)) ∙ asked_end next (before ++ a ∷ []) answers asked.1
 

@@ -334,11 +334,17 @@ module _ (drivers clients : ℕ) where
   go_all s [] lawful = tt
   go_all s (line ∷ lines) lawful = go_front (of_store s (own_of line.number line.act)) (lines_of_store s lines) (goes_of s line.number line.act lawful.0) (go_all s lines lawful.1)
 
-abbrev first_of : {A : Type 0} → A → List A → A
+-- the lines of each store go to drivers of the script
+pub lines_go : (script : Script) → IsLawfulScript OnThreads script → (s : ℕ) → All (GoesTo script.drivers) (lines_of_store s script.lines)
+lines_go script lawful s =
+    All-from_recursion (GoesTo script.drivers) (lines_of_store s script.lines)
+    (go_all script.drivers script.clients s script.lines (recursion_from_All (λ (line : Line). IsLawful script.drivers script.clients line.act) script.lines (all_asked OnThreads script lawful)))
+
+abbrev pub first_of : {A : Type 0} → A → List A → A
 first_of d [] = d
 first_of d (x ∷ xs) = x
 
-abbrev rest_of : {A : Type 0} → List A → List A
+abbrev pub rest_of : {A : Type 0} → List A → List A
 rest_of [] = []
 rest_of (x ∷ xs) = xs
 
@@ -401,7 +407,7 @@ walk_tasks script lawful dealt rest over walked =
       stores = subst (λ (xs : List ℕ). AreApart (0 ∷ xs)) (sym (ids_are script.drivers script.lines dealt are))
           (apart_ids ids w.acting.rise (λ k d low. All-contains (λ (s : ℕ). 0 < s) (flat_map (λ (line : Line). store_by line.actor) script.lines) (get_or ids k d) speakers ((w.acting.exactly (get_or ids k d)).0 (Contains-get_or ids k d low))));
       within = All-from_recursion (λ (s : StoreLines). All (GoesTo script.drivers) s.lines.items) dealt.tasks.stores.items
-          (all_stores (All (GoesTo script.drivers)) (λ (s : ℕ). lines_of_store s script.lines) (λ s. All-from_recursion (GoesTo script.drivers) (lines_of_store s script.lines) (go_all script.drivers script.clients s script.lines each)) dealt.tasks.stores.items ids are.stores_are);
+          (all_stores (All (GoesTo script.drivers)) (λ (s : ℕ). lines_of_store s script.lines) (lines_go script lawful) dealt.tasks.stores.items ids are.stores_are);
     }
 
 -- THE ANSWERS: those of a run that was handed these lines are to the script's own lines

@@ -10,9 +10,10 @@ use Rattle.pd_types.specs.declared.oracle.Window.{Window}
 use Rattle.pd_script.specs.declared.script.Script.{Script}
 use Rattle.tso_model.specs.OneHistory.{LiesInOne}
 use Rattle.tso_outcome.proofs.Safe.{is_safe}
-use Rattle.tso_outcome.specs.Runs.{all_got}
-use Rattle.pd_cluster.specs.RunOutcome.{RunsSafely, TellsRun}
-use Rattle.pd_cluster.specs.RunText.{printed_windows}
+use Rattle.tso_outcome.specs.Runs.{Run, all_got}
+use Rattle.pd_cluster.specs.RunOutcome.{RunsOver, RunsSafely}
+use Rattle.pd_cluster.specs.RunText.{printed_windows, run_text}
+use Rattle.pd_cluster.specs.Talks.{Benches}
 
 -- an element that passes the test stays
 module _ {A : Type 0} (test : A → Bool) where
@@ -48,14 +49,15 @@ lies_printed windows b lies = record {
   inside = lies.inside;
 }
 
-pub runs_safely : (script : Script) (text : List ℕ) → TellsRun script text → (Writes : List ℕ → Type 0) → Writes text → RunsSafely script Writes
-runs_safely script text tells Writes written =
-    let safe = is_safe tells.run tells.lawful in
+pub runs_safely : (benches : Benches) (script : Script) → (ran : RunsOver benches script) → (Writes : List ℕ → Type 0) → Writes (run_text ran.run) → RunsSafely script Writes
+runs_safely benches script ran Writes written =
+    let oracle : Run = ran.run.oracle in
+    let safe = is_safe oracle ran.lawful.oracle in
     record {
-      run = tells.run;
-      lines = tells.answers;
-      printed = subst Writes tells.told written;
+      run = ran.run;
+      lines = ran.answers;
+      printed = written;
       safe = safe;
-      inside = All-weaker (LiesInOne tells.run.windows) (LiesInOne (printed_windows tells.run.windows)) (λ b lies. lies_printed tells.run.windows b lies) (all_got tells.run.clients) safe.history.inside;
-      saved = All-from_recursion HasLength (printed_windows tells.run.windows) (all_passed tells.run.windows);
+      inside = All-weaker (LiesInOne oracle.windows) (LiesInOne (printed_windows oracle.windows)) (λ b lies. lies_printed oracle.windows b lies) (all_got oracle.clients) safe.history.inside;
+      saved = All-from_recursion HasLength (printed_windows oracle.windows) (all_passed oracle.windows);
     }

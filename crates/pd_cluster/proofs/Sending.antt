@@ -55,11 +55,11 @@ use Rattle.pd_cluster.specs.Replay.{Kept, SaysEnough, SaysEnoughFor, State, Take
 use Rattle.pd_cluster.specs.Talks.{talk_at}
 use Rattle.pd_cluster.specs.declared.lead.BegunLead.{BegunLead}
 use Rattle.pd_state.specs.StepTold.{TellsStep}
-use Rattle.pd_cluster.specs.Sent.{IsSafeSaid, IsSafelySent, IsToldSafely, SendsSafely}
+use Rattle.pd_cluster.specs.Sent.{IsSafeSaid, IsSafelySent, IsToldSafely}
 use Rattle.pd_cluster.specs.Streams.{Waiting, first_of, has_room, messages_in, left_by, oldest_in, waiting_for, with_actor, with_actors, with_message, with_messages, without_first}
 use Rattle.pd_cluster.specs.declared.said.Said.{Said}
 use Rattle.pd_cluster.specs.declared.said.Said.TheVariants.{ByOracle, ByCluster, Popped}
-use Rattle.pd_state.proofs.Telling.{told_sent}
+use Rattle.pd_cluster.proofs.Sends.{IsOwn, later_sent, later_told, own_sent, own_told}
 
 -- THE ENTRIES ARE LEGAL
 -- the answers to calls that are made in turn, where no call comes behind so many
@@ -104,11 +104,11 @@ abbrev pub AreTurnless : Option Request → Type 0
 AreTurnless None = Unit {0}
 AreTurnless (Some request) = IsTurnless request
 
-term_turnless : (term moment : ℕ) → IsTurnless (ask.Term term moment)
+pub term_turnless : (term moment : ℕ) → IsTurnless (ask.Term term moment)
 term_turnless term moment None names = refl
 term_turnless term moment (Some part) names = refl
 
-retire_turnless : IsTurnless ask.Retire
+pub retire_turnless : IsTurnless ask.Retire
 retire_turnless None names = refl
 retire_turnless (Some part) names = refl
 
@@ -142,56 +142,7 @@ besides_enough : (kept : Kept) (d : ℕ) (o : Option Request) → AreTurnless o 
 besides_enough kept d None none = tt
 besides_enough kept d (Some request) none = turnless_enough kept d request none
 
--- WHAT AN ENTRY SENDS
-from_map : {A B : Type 0} (f : A → B) (xs : List A) (y : B) → Contains (map f xs) y → (x : A) × Contains xs x × (y ≡ f x)
-from_map f [] y has = absurd (let low = has.1 in omega (arith, low))
-from_map f (x ∷ xs) y (zero, low, same) = (x, (0, omega arith, refl), sym same)
-from_map f (x ∷ xs) y (suc k, low, same) =
-    let rest = from_map f xs y (k, omega (arith, low), same) in
-    (rest.0, (suc rest.1.0, omega (arith, rest.1.1), rest.1.2), rest.2)
-
-none_in : {A B : Type 0} (x : A) → Contains [] x → B
-none_in x has = absurd (let low = has.1 in omega (arith, low))
-
--- what an entry that sends finds and leaves
-record HasParts (o : Option (List Entry)) (request : Request) (entry : Entry) : Type 0 where
-  before : Part
-  after : Part
-  stood : option_map part_of o ≡ Some before
-  stands : option_map part_of (since_by request entry o) ≡ Some after
-
--- a command to resign sends nothing
-resign_sends : (around : Around) (planning : Planning) (told : Result Command CtlFault) (at : Hearing) → resigns_by told ≡ true → Ends Deed (λ (deed : Deed). deed.sents ≡ []) (words_done around planning told at)
-resign_sends around planning (Err fault) at is = refl
-resign_sends around planning (Ok commands.LeaderResign) at is = refl
-resign_sends around planning (Ok command) at is = absurd cc
-
-resigned_sends : (part : Part) (moment : ℕ) (words : List ℕ) (answers : List MetaAnswer) → resigns words ≡ true → (deed_of (ctl_of part moment words) part moment answers).sents ≡ []
-resigned_sends part moment words answers is =
-    ends_or Deed (λ (deed : Deed). deed.sents ≡ []) (idle (around_at part moment) (planning_of part) replies.NotLeading) (ctl_of part moment words (hearing part.known answers)) refl
-    (resign_sends (around_at part moment) (planning_of part) (command_told words) (hearing part.known answers) is)
-
-parts_of : (o : Option (List Entry)) (request : Request) (entry : Entry) (reply : Reply) (heard : Heard) (sent : Sent) → Contains (sents_by (option_map part_of o) request reply heard) sent → HasParts o request entry
-parts_of None request entry reply heard sent has = none_in sent has
-parts_of (Some es) (ask.Beat store moment beat) entry reply heard sent has = record { before = part_of es; after = part_of (entry ∷ es); stood = refl; stands = refl }
-parts_of (Some es) (ask.Check moment region) entry reply heard sent has = record { before = part_of es; after = part_of (entry ∷ es); stood = refl; stands = refl }
-parts_of (Some es) (ask.Patrol moment workers) entry reply heard sent has = record { before = part_of es; after = part_of (entry ∷ es); stood = refl; stands = refl }
-parts_of (Some es) (ask.Schedule moment) entry reply heard sent has = record { before = part_of es; after = part_of (entry ∷ es); stood = refl; stands = refl }
-parts_of (Some es) (ask.Ctl moment words) entry reply heard sent has = by (resigns words) refl
-  where
-    by : (t : Bool) → resigns words ≡ t → HasParts (Some es) (ask.Ctl moment words) entry
-    by true is = none_in sent (subst (λ (sents : List Sent). Contains sents sent) (resigned_sends (part_of es) moment words heard.answers is) has)
-    by false is = record { before = part_of es; after = part_of (entry ∷ es); stood = refl; stands = ap (λ (t : Bool). option_map part_of (cond t None (Some (entry ∷ es)))) is }
-parts_of (Some es) (ask.Term term moment) entry reply heard sent has = none_in sent has
-parts_of (Some es) ask.Retire entry reply heard sent has = none_in sent has
-parts_of (Some es) (ask.Hello store moment address labels) entry reply heard sent has = none_in sent has
-parts_of (Some es) (ask.Alive store moment) entry reply heard sent has = none_in sent has
-parts_of (Some es) (ask.Rule moment json) entry reply heard sent has = none_in sent has
-parts_of (Some es) (ask.Unrule moment group id) entry reply heard sent has = none_in sent has
-
-all_has : {A : Type 0} (P : A → Type 0) (xs : List A) (x : A) → All P xs → Contains xs x → P x
-all_has P xs x all has = subst P has.2 (all has.0 x has.1)
-
+-- a request that is served sends safely, and tells what it sent
 module _ (kept : Kept) (d n : ℕ) (request : Request) (enough : SaysEnough kept d request) (legal : IsLegal d (past_at kept.journals d)) where
   abbrev one : Entry
   one = served kept d n request
@@ -199,53 +150,13 @@ module _ (kept : Kept) (d n : ℕ) (request : Request) (enough : SaysEnough kept
   abbrev past : List Entry
   past = past_at kept.journals d
 
-  sends_safely : (m : StepMsg) → Contains one.sends m → SendsSafely past one m
-  sends_safely m has =
-      let from = from_map (message d (term_in (part_after past)) (length past + 1)) (sents_by (part_after past) request one.reply (heard_of one)) m has in
-      let parts = parts_of (since past) request one one.reply (heard_of one) from.0 from.1 in
-      record {
-        sent = has;
-        before = parts.before;
-        after = parts.after;
-        stood = parts.stood;
-        stands = parts.stands;
-        safe = all_has (IsSafeThere parts.before parts.after (max parts.before.clock (moment_of request))) one.sends m (gated d past one legal (served_legal kept d n request enough) parts.before parts.after parts.stood parts.stands) has;
-      }
+  served_sent : (m : StepMsg) → Contains one.sends m → IsOwn d (one ∷ past) m
+  served_sent m has = own_sent d past one legal (served_legal kept d n request enough) m has
 
-  record IsOwn (m : StepMsg) : Type 0 where
-    driver : m.driver ≡ d
-    sent : IsSafelySent (one ∷ past) m
-
-  own_sent : (m : StepMsg) → Contains one.sends m → IsOwn m
-  own_sent m has =
-      let from = from_map (message d (term_in (part_after past)) (length past + 1)) (sents_by (part_after past) request one.reply (heard_of one)) m has in
-      record {
-        driver = ap (λ (x : StepMsg). x.driver) from.2;
-        sent = record { later = []; entry = one; past = past; stands = refl; place = ap (λ (x : StepMsg). x.entry) from.2; safely = sends_safely m has };
-      }
-
-  own_told : (step : Step) → TellsStep one.reply step → IsToldSafely (one ∷ past) n one.reply
-  own_told step is =
-      let among = told_sent d (part_after past) request (heard_of one) step is in
-      let m : StepMsg = message d (term_in (part_after past)) (length past + 1) among.sent in
-      let has : Contains one.sends m = to_map (message d (term_in (part_after past)) (length past + 1)) (sents_by (part_after past) request one.reply (heard_of one)) among.sent among.here in
-      record { message = m; told = among.told; sent = record { later = []; entry = one; past = past; stands = refl; place = refl; safely = sends_safely m has }; line_is = refl; reply_is = refl }
+  served_told : (step : Step) → TellsStep one.reply step → IsToldSafely (one ∷ past) n one.reply
+  served_told step is = own_told d past one legal (served_legal kept d n request enough) step is
 
 -- WHAT WAS SENT STAYS SENT
-later_sent : (more journal : List Entry) (m : StepMsg) → IsSafelySent journal m → IsSafelySent (more ++ journal) m
-later_sent more journal m s = record {
-  later = more ++ s.later;
-  entry = s.entry;
-  past = s.past;
-  stands = ap (λ (j : List Entry). more ++ j) s.stands ∙ sym (append_assoc more s.later (s.entry ∷ s.past));
-  place = s.place;
-  safely = s.safely;
-}
-
-later_told : (more journal : List Entry) (line : ℕ) (reply : Reply) → IsToldSafely journal line reply → IsToldSafely (more ++ journal) line reply
-unfolding later_sent
-later_told more journal line reply t = record { message = t.message; told = t.told; sent = later_sent more journal t.message t.sent; line_is = t.line_is; reply_is = t.reply_is }
-
 -- each journal has more entries, or the same ones
 pub record Grows (old new : List (List Entry)) (d : ℕ) : Type 0 where
   pub more : List Entry
@@ -392,7 +303,7 @@ module _ (kept : Kept) (d n : ℕ) (request : Request) (enough : SaysEnough kept
 
   own_waits : (m : StepMsg) → d < length kept.journals → Contains (served kept d n request).sends m → IsWaiting after.journals d m.to m
   own_waits m low has =
-      let own = own_sent kept d n request enough (legal d) m has in
+      let own = served_sent kept d n request enough (legal d) m has in
       record { driver = own.driver; to = refl; sent = subst (λ (j : List Entry). IsSafelySent j m) (sym (put_here kept.journals d behind_it [] low)) own.sent }
 
 all_each : {A : Type 0} (P : A → Type 0) (xs : List A) → ((x : A) → Contains xs x → P x) → AllByRecursion P xs
@@ -441,7 +352,7 @@ module _ (drivers : ℕ) (state : State) (n d : ℕ) (actor : Option Actor) (req
         safe = λ driver other step act told.
             let same : d ≡ driver = cc in
             subst (λ (k : ℕ). IsToldSafely (past_at new_js k) n (served state.kept d n request).reply) same
-            (subst (λ (j : List Entry). IsToldSafely j n (served state.kept d n request).reply) (sym (put_here old_js d (served state.kept d n request ∷ past_at old_js d) [] within)) (own_told state.kept d n request enough (s.legal d) step told));
+            (subst (λ (j : List Entry). IsToldSafely j n (served state.kept d n request).reply) (sym (put_here old_js d (served state.kept d n request ∷ past_at old_js d) [] within)) (served_told state.kept d n request enough (s.legal d) step told));
       }
 
 module _ (drivers : ℕ) (state : State) (n store d : ℕ) (actor : Option Actor) (s : IsSound drivers state) where

@@ -1,5 +1,5 @@
 -- What a command answers to a text, and what a run of the program leaves of it (own choice).
-use Rattle.std.specs.Prelude.{◌≡◌, ◌≢◌, ◌⊎◌, ℕ, ◌+◌, ◌<◌, List, [], ◌∷◌, ◌++◌, length, map, codes, Bool, true, false, Option, Result, Ok, Err, nat_lt, if◌then◌else◌}
+use Rattle.std.specs.Prelude.{◌≡◌, ◌⊎◌, ℕ, ◌+◌, ◌<◌, List, [], ◌∷◌, ◌++◌, length, map, codes, Bool, true, false, Option, Result, Ok, Err, nat_lt, if◌then◌else◌}
 use Rattle.std.specs.Fmt.{decimal}
 use Rattle.std.specs.Io.KnownBytes.{Appends, Consumes, IsAtEnd, Keeps}
 use Rattle.pd_lines.specs.Input.{TakesFew}
@@ -19,10 +19,9 @@ use Rattle.pd_script.specs.declared.act.Line.{Line}
 use Rattle.pd_cluster.specs.Answers.{Answer, answers_text}
 use Rattle.pd_cluster.specs.History.{IsSafe, windows_of}
 use Rattle.pd_cluster.specs.Replay.{State, TakeTurns, answers_of, line_step, start, state_after}
-use Rattle.pd_cluster.specs.RunOutcome.{RunsSafely, TellsRun}
+use Rattle.pd_cluster.specs.RunOutcome.{AreLost, RunsHeeded, RunsSafeSteps, RunsSafely, TellsRun}
 use Rattle.pd_cluster.specs.Sent.{HaveSafeSteps}
-use Rattle.pd_cluster.specs.Talks.{AreHeeded, Talk, talks_of}
-use Rattle.sched_api.specs.Benches.{Seats}
+use Rattle.pd_cluster.specs.Talks.{AreHeeded, Benches, Talk, talks_of}
 use Rattle.pd_cluster.specs.declared.command.Command.{Command}
 use Rattle.pd_cluster.specs.declared.command.Command.TheVariants.{Replay, Run, Tso}
 use Rattle.pd_cluster.specs.declared.status.Status.{Status}
@@ -64,11 +63,6 @@ refusal_outcome (Fault line reason) = record { status = Refused; text = codes "l
 refusal_outcome (PastLimit what count) = record { status = Limit; text = codes "limit " ++ limited_text what ++ codes " " ++ decimal count ++ codes "\n" }
 refusal_outcome NoRoom = record { status = NoMemory; text = [] }
 
--- the benches of schedulers before a run and after it: the first driver's, the second one's, and so on
-pub record Benches : Type 0 where
-  pub old : List Seats
-  pub new : List Seats
-
 -- what the benches of a script's drivers say in it
 abbrev pub talks_in : Benches → Script → List Talk
 talks_in benches script = talks_of (script.drivers + 1) benches.old benches.new
@@ -82,20 +76,20 @@ script_outcome benches (Err refusal) = refusal_outcome refusal
 abbrev pub replay_outcome : Benches → List ℕ → Outcome
 replay_outcome benches text = if nat_lt 16777216 (length text) then limit_bytes else script_outcome benches (script_of ByLine text)
 
--- an outcome of `run` over a script is the text of any lawful run of it; over a text that is none it is the refusal
-abbrev pub IsScriptRun : Result Script ScriptRefusal → Outcome → Type 0
-IsScriptRun (Ok script) outcome = (outcome.status ≡ Done) × TellsRun script outcome.text
-IsScriptRun (Err refusal) outcome = outcome ≡ refusal_outcome refusal
+-- an outcome of `run` over a script and these benches is the text of any lawful run of it over them; over a text that is none it is the refusal
+abbrev pub IsScriptRun : Benches → Result Script ScriptRefusal → Outcome → Type 0
+IsScriptRun benches (Ok script) outcome = (outcome.status ≡ Done) × TellsRun benches script outcome.text
+IsScriptRun benches (Err refusal) outcome = outcome ≡ refusal_outcome refusal
 
 -- the same, where the text that was read may be too long
-abbrev pub IsRunUnless : Bool → Result Script ScriptRefusal → Outcome → Type 0
-IsRunUnless true read outcome = outcome ≡ limit_bytes
-IsRunUnless false read outcome = IsScriptRun read outcome
+abbrev pub IsRunUnless : Benches → Bool → Result Script ScriptRefusal → Outcome → Type 0
+IsRunUnless benches true read outcome = outcome ≡ limit_bytes
+IsRunUnless benches false read outcome = IsScriptRun benches read outcome
 
 -- a lawful outcome of a command over the text that it read
 abbrev pub IsOutcome : Benches → Command → List ℕ → Outcome → Type 0
 IsOutcome benches Replay text outcome = outcome ≡ replay_outcome benches text
-IsOutcome benches Run text outcome = IsRunUnless (nat_lt 16777216 (length text)) (script_of OnThreads text) outcome
+IsOutcome benches Run text outcome = IsRunUnless benches (nat_lt 16777216 (length text)) (script_of OnThreads text) outcome
 IsOutcome benches (Tso timestamp) text outcome = outcome ≡ tso_outcome timestamp
 
 -- Before and after each line, each cursor stands at most 64 milliseconds past the saved end, however many draws were refused
@@ -119,25 +113,29 @@ pub record IsHeeded (benches : Benches) (script : Script) : Type 0 where
   pub told : AreHeeded (answers_of (talks_in benches script) script) 1 benches.old benches.new
   pub turns : TakeTurns (start (talks_in benches script) script) script.lines
 
--- so it is with the script; a text that is none asks no bench
-abbrev pub AreHeededIn : Benches → Result Script ScriptRefusal → Type 0
-AreHeededIn benches (Ok script) = IsHeeded benches script
-AreHeededIn benches (Err refusal) = benches.new ≡ benches.old
+-- so it is with a script that is replayed, and of one that is run it is said of the run that its outcome tells; a text that is none asks no bench
+abbrev pub AreHeededIn : Benches → Mode → Result Script ScriptRefusal → Type 0
+AreHeededIn benches ByLine (Ok script) = IsHeeded benches script
+AreHeededIn benches ByLine (Err refusal) = benches.new ≡ benches.old
+AreHeededIn benches OnThreads (Ok script) = Unit {0}
+AreHeededIn benches OnThreads (Err refusal) = benches.new ≡ benches.old
 
 -- the same, where the text that was read may be too long
-abbrev pub AreHeededUnless : Benches → Bool → Result Script ScriptRefusal → Type 0
-AreHeededUnless benches true read = benches.new ≡ benches.old
-AreHeededUnless benches false read = AreHeededIn benches read
+abbrev pub AreHeededUnless : Benches → Mode → Bool → Result Script ScriptRefusal → Type 0
+AreHeededUnless benches mode true read = benches.new ≡ benches.old
+AreHeededUnless benches mode false read = AreHeededIn benches mode read
 
--- the same of the text that a command read; `replay` alone asks a bench
+-- the same of the text that a command read; `tso` asks no bench
 abbrev pub AreHeededBy : Benches → Command → List ℕ → Type 0
-AreHeededBy benches Replay text = AreHeededUnless benches (nat_lt 16777216 (length text)) (script_of ByLine text)
-AreHeededBy benches Run text = benches.new ≡ benches.old
+AreHeededBy benches Replay text = AreHeededUnless benches ByLine (nat_lt 16777216 (length text)) (script_of ByLine text)
+AreHeededBy benches Run text = AreHeededUnless benches OnThreads (nat_lt 16777216 (length text)) (script_of OnThreads text)
 AreHeededBy benches (Tso timestamp) text = benches.new ≡ benches.old
 
--- a command other than `replay` asks no bench
-abbrev pub IsUnheard : Benches → Command → Type 0
-IsUnheard benches command = command ≢ Replay → benches.new ≡ benches.old
+-- What is left of the benches where a command wants memory for its answer: `run` lent none, or has lost them, and `tso` asked none; of `replay` nothing is said
+abbrev pub AreLeft : Benches → Command → Type 0
+AreLeft benches Replay = Unit {0}
+AreLeft benches Run = AreLost benches
+AreLeft benches (Tso timestamp) = benches.new ≡ benches.old
 
 -- a command's outcome over the text that it read is safe; of `run` that is said of the run which its outcome tells
 abbrev pub SafeOutcome : Command → List ℕ → Type 0
@@ -230,17 +228,22 @@ IsHeadline Replay status left_old left_new held_old held_new = EndsSaying ByLine
 IsHeadline Run status left_old left_new held_old held_new = EndsSaying OnThreads (SafelyPrints OnThreads) status left_old left_new held_old held_new
 IsHeadline (Tso timestamp) status left_old left_new held_old held_new = Unit {0}
 
--- The headline of placement steps: each that `replay` prints was sent by an entry of a driver's journal, and was safe there; the other
--- commands print none
+-- The headline of placement steps: each that `replay` or `run` prints was sent by an entry of a driver's journal, and was safe there; `tso` prints none
 abbrev pub IsStepHeadline : Command → Status → Option (List ℕ) → Option (List ℕ) → Option (List ℕ) → Option (List ℕ) → Type 0
 IsStepHeadline Replay status left_old left_new held_old held_new = EndsSaying ByLine PrintsSafeSteps status left_old left_new held_old held_new
-IsStepHeadline Run status left_old left_new held_old held_new = Unit {0}
+IsStepHeadline Run status left_old left_new held_old held_new = EndsSaying OnThreads RunsSafeSteps status left_old left_new held_old held_new
 IsStepHeadline (Tso timestamp) status left_old left_new held_old held_new = Unit {0}
 
--- What `replay` prints of schedulers: the proposals in the answers to a driver's lines are, in order, what its bench said; the other commands ask no bench
+-- The same, with what is left of the benches where nothing was to be printed: after a failed read they are as they were
+abbrev pub EndsHeeding : Benches → Command → Mode → (Script → (List ℕ → Type 0) → Type 0) → Status → Option (List ℕ) → Option (List ℕ) → Option (List ℕ) → Option (List ℕ) → Type 0
+EndsHeeding benches command mode Says ReadFault left_old left_new held_old held_new = (benches.new ≡ benches.old) × Keeps held_old held_new
+EndsHeeding benches command mode Says NoMemory left_old left_new held_old held_new = (AreLeft benches command × Keeps held_old held_new) ⊎ IsPrinted mode Says left_old left_new (WritesPrefix held_old held_new)
+EndsHeeding benches command mode Says status left_old left_new held_old held_new = EndsSaying mode Says status left_old left_new held_old held_new
+
+-- What `replay` and `run` print of schedulers: the proposals in the answers to a driver's lines are, in order, what its bench said; `tso` asks no bench
 abbrev pub IsHeededBy : Benches → Command → Status → Option (List ℕ) → Option (List ℕ) → Option (List ℕ) → Option (List ℕ) → Type 0
-IsHeededBy benches Replay status left_old left_new held_old held_new = EndsSaying ByLine (PrintsHeeded benches) status left_old left_new held_old held_new
-IsHeededBy benches Run status left_old left_new held_old held_new = benches.new ≡ benches.old
+IsHeededBy benches Replay status left_old left_new held_old held_new = EndsHeeding benches Replay ByLine (PrintsHeeded benches) status left_old left_new held_old held_new
+IsHeededBy benches Run status left_old left_new held_old held_new = EndsHeeding benches Run OnThreads (RunsHeeded benches) status left_old left_new held_old held_new
 IsHeededBy benches (Tso timestamp) status left_old left_new held_old held_new = benches.new ≡ benches.old
 
 -- a read that failed took no more than the limit; `tso` reads nothing, so that none fails

@@ -1,7 +1,8 @@
 -- A response is the outcome that it stands for.
 use Rattle.std.specs.Prelude.{◌≡◌, ◌≤◌, ℕ, List, Option, Result, IsErrOf, string_bytes}
 use Rattle.pd_io.specs.Faults.{Rose}
-use Rattle.pd_cluster.specs.Outcome.{AreHeededBy, Benches, Outcome, IsOutcome, Reads}
+use Rattle.pd_cluster.specs.Outcome.{AreHeededBy, Outcome, IsOutcome, Reads}
+use Rattle.pd_cluster.specs.Talks.{Benches}
 use Rattle.pd_script.specs.declared.script.Mode.{Mode}
 use Rattle.pd_script.specs.declared.script.Mode.TheVariants.{Replay as ByLine, Run as OnThreads}
 use Rattle.pd_cluster.specs.declared.command.Command.{Command}

@@ -1,6 +1,6 @@
 -- What is printed of placement steps: each step was sent by an entry of a driver's journal, and was safe there, whoever asked for it (PD, region heartbeats: a
 -- step is sent to a region's leader only while a majority of its voters is live, and stays so). Each journal has its latest entry first.
-use Rattle.std.specs.Prelude.{◌≡◌, ℕ, ◌+◌, max, List, ◌∷◌, ◌++◌, length, Some, None, All, Contains}
+use Rattle.std.specs.Prelude.{◌≡◌, ℕ, ◌+◌, max, List, ◌∷◌, ◌++◌, length, reverse, Some, None, All, Contains}
 use Rattle.pd_types.specs.declared.request.Request.{Request}
 use Rattle.pd_types.specs.declared.step.Step.{Step}
 use Rattle.pd_types.specs.declared.step.StepMsg.{StepMsg}
@@ -13,6 +13,13 @@ use Rattle.pd_state.specs.Gates.{IsSafeThere}
 use Rattle.pd_state.specs.Legal.{IsLegal}
 use Rattle.pd_state.specs.State.{moment_of, part_after}
 use Rattle.pd_state.specs.StepTold.{TellsStep}
+use Rattle.pd_run.specs.declared.answer.DriverAnswer.{DriverAnswer}
+use Rattle.pd_run.specs.declared.answer.DriverSays.{DriverSays}
+use Rattle.pd_run.specs.declared.answer.DriverSays.TheVariants as drivers
+use Rattle.pd_run.specs.declared.answer.StoreAnswer.{StoreAnswer}
+use Rattle.pd_run.specs.declared.answer.StoreSays.{StoreSays}
+use Rattle.pd_run.specs.declared.answer.StoreSays.TheVariants as stores
+use Rattle.pd_run.specs.Runs.{DriverPart, Journal, Run, StorePart}
 use Rattle.pd_cluster.specs.Answers.{Answer}
 use Rattle.pd_cluster.specs.declared.said.Said.{Said}
 use Rattle.pd_cluster.specs.declared.said.Said.TheVariants.{ByOracle, ByCluster, Popped}
@@ -58,3 +65,38 @@ pub record HaveSafeSteps (answers : List Answer) : Type 0 where
   pub journals : ℕ → List Entry
   pub legal : (driver : ℕ) → IsLegal driver (journals driver)
   pub safe : All (λ answer. IsSafeSaid journals answer.line answer.said) answers
+
+-- OF A RUN, whose text has the journals too
+
+-- one of these journals is this driver's, and by it, the latest entry first, this holds
+pub record IsByJournal (journals : List Journal) (driver : ℕ) (Holds : List Entry → Type 0) : Type 0 where
+  pub journal : Journal
+  pub one : Contains journals journal
+  pub driver_is : journal.driver ≡ driver
+  pub holds : Holds (reverse journal.entries)
+
+-- where this reply of a driver's cluster tells a step as sent, the entry of its line sent one that it tells
+abbrev pub TellsSafely : List Journal → ℕ → ℕ → Reply → Type 0
+TellsSafely journals driver line reply = (step : Step) → TellsStep reply step → IsByJournal journals driver (λ (journal : List Entry). IsToldSafely journal line reply)
+
+-- what a driver answers on a line: its cluster's reply tells steps safely; the oracle tells none
+abbrev pub DriverTellsSafely : List Journal → ℕ → ℕ → DriverSays → Type 0
+DriverTellsSafely journals driver line (drivers.Oracle said) = Unit {0}
+DriverTellsSafely journals driver line (drivers.Cluster reply) = TellsSafely journals driver line reply
+DriverTellsSafely journals driver line (drivers.Resigned reply held) = TellsSafely journals driver line reply
+
+-- what a store answers on a line that goes to a driver's cluster: the reply tells steps safely, and a message that it took was sent to it by an entry of this
+-- driver's journal
+abbrev pub StoreTellsSafely : List Journal → ℕ → ℕ → ℕ → StoreSays → Type 0
+StoreTellsSafely journals store driver line (stores.Cluster reply) = TellsSafely journals driver line reply
+StoreTellsSafely journals store driver line (stores.Popped None) = Unit {0}
+StoreTellsSafely journals store driver line (stores.Popped (Some message)) =
+    (message.to ≡ store) × (message.driver ≡ driver) × IsByJournal journals driver (λ (journal : List Entry). IsSafelySent journal message)
+
+-- The headline of steps, of a run: its journals are legal, and by them each printed step is safe, whether an entry of a journal tells it as sent, or an answer to
+-- a driver or to a store, or a store took it
+pub record HasSafeSteps (run : Run) : Type 0 where
+  pub legal : All (λ (j : Journal). IsLegal j.driver (reverse j.entries)) run.journals
+  pub entries : All (λ (j : Journal). All (λ (entry : Entry). TellsSafely run.journals j.driver entry.line entry.reply) j.entries) run.journals
+  pub drivers_are : All (λ (p : DriverPart). All (λ (a : DriverAnswer). DriverTellsSafely run.journals p.number a.line a.says) p.answers) run.drivers
+  pub stores_are : All (λ (p : StorePart). All (λ (a : StoreAnswer). StoreTellsSafely run.journals p.store a.driver a.line a.says) p.answers) run.stores

@@ -14,6 +14,11 @@ pub record Talk : Type 0 where
   pub names : List (List ℕ)
   pub said : List Heeded
 
+-- the benches of schedulers before a run and after it: the first driver's, the second one's, and so on
+pub record Benches : Type 0 where
+  pub old : List Seats
+  pub new : List Seats
+
 -- no scheduler, which says nothing
 abbrev pub silence : Talk
 silence = record { names = []; said = [] }

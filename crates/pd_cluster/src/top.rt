@@ -1,10 +1,10 @@
 // The program over whatever source and sink it is handed.
-ghost use Rattle.std.specs.Prelude.{◌+◌, ◌≡◌, ◌≢◌, ◌≤◌, IfOk, IfNone, IfSome, IsErrOf, OnOk, length, map, string_bytes};
+ghost use Rattle.std.specs.Prelude.{◌+◌, ◌≡◌, ◌≢◌, ◌≤◌, IfOk, IfNone, IfSome, IsErrOf, OnErr, OnOk, length, map, string_bytes};
 ghost use Rattle.std.specs.Io.KnownBytes.{Keeps};
 ghost use Rattle.pd_cluster.specs.Command.{command_of};
-ghost use Rattle.pd_cluster.specs.Outcome.{AreHeededBy, AreHeededIn, Asks, TellsParts, Ends, IsHeadline, IsHeededBy, IsOutcome, IsScriptRun, IsStepHeadline, IsUnheard, IsUnread, Leaves, Outcome, limit_bytes, limited_text, refusal_outcome, script_outcome, tso_outcome, usage};
+ghost use Rattle.pd_cluster.specs.Outcome.{AreHeededBy, AreHeededIn, AreLeft, Asks, TellsParts, Ends, IsHeadline, IsHeededBy, IsOutcome, IsScriptRun, IsStepHeadline, IsUnread, Leaves, Outcome, limit_bytes, limited_text, refusal_outcome, script_outcome, tso_outcome, usage};
 ghost use Rattle.pd_cluster.specs.Response.{Gives, HasEndCause, HasFailureCause, IsFinal, Responds, command_in, outcome_of};
-ghost use Rattle.pd_cluster.specs.RunOutcome.{TellsRun};
+ghost use Rattle.pd_cluster.specs.RunOutcome.{AreLost, TellsRun};
 ghost use Rattle.pd_cluster.specs.declared.status.Status.TheVariants.{ReadFault, WriteFault};
 ghost use Rattle.pd_lines.specs.Input.{TakesFew};
 ghost use Rattle.pd_script.specs.Lawful.{IsLawfulScript};
@@ -135,7 +135,7 @@ fn script_response<B: Seated>(
 ) -> Result<Response, NoMemory>
     requires { length text.now ≤ 16777216 }
     ensures gives { IfOk result (Gives (script_outcome (record { old = map B.seats benches.old.items; new = map B.seats benches.new.items }) (script_of ByLine text.now))) }
-    ensures heeded { OnOk result (AreHeededIn (record { old = map B.seats benches.old.items; new = map B.seats benches.new.items }) (script_of ByLine text.now)) }
+    ensures heeded { OnOk result (AreHeededIn (record { old = map B.seats benches.old.items; new = map B.seats benches.new.items }) ByLine (script_of ByLine text.now)) }
     ensures settled { IfOk result (λ r. IsFinal r.status) }
 {
     match read_script(alloc, text, Mode::Replay) {
@@ -150,7 +150,7 @@ fn script_response<B: Seated>(
     }
 }
 
-// The text of a script's run on threads.
+// The text of a script's run on threads, over the drivers' benches of schedulers.
 fn run_on_threads<R: Threads + Wait + Sync, B: Seated + Drop + Send, G: Gate + Sync>(
     rt: &R,
     alloc: Global,
@@ -158,8 +158,9 @@ fn run_on_threads<R: Threads + Wait + Sync, B: Seated + Drop + Send, G: Gate + S
     benches: &mut Vec<B>,
     gate: &G,
 ) -> Result<String, NoMemory>
-    requires lawful { IsLawfulScript OnThreads script.now }
-    ensures told { IfOk result (λ text. TellsRun script.now (string_bytes text)) }
+    requires lawful { IsLawfulScript OnThreads script }
+    ensures told { IfOk result (λ text. TellsRun (record { old = map B.seats benches.old.items; new = map B.seats benches.new.items }) script (string_bytes text)) }
+    ensures lost { OnErr result (AreLost (record { old = map B.seats benches.old.items; new = map B.seats benches.new.items })) }
 {
     let cell = opening_cell(script.lines.as_slice());
     let crew = open(alloc, script.drivers, script.clients, cell)?;
@@ -167,7 +168,7 @@ fn run_on_threads<R: Threads + Wait + Sync, B: Seated + Drop + Send, G: Gate + S
     Ok(text)
 }
 
-// The response to a script that runs on threads.
+// The response to a script that runs on threads, over the drivers' benches of schedulers.
 fn threads_response<R: Threads + Wait + Sync, B: Seated + Drop + Send, G: Gate + Sync>(
     rt: &R,
     alloc: Global,
@@ -176,7 +177,9 @@ fn threads_response<R: Threads + Wait + Sync, B: Seated + Drop + Send, G: Gate +
     gate: &G,
 ) -> Result<Response, NoMemory>
     requires { length text.now ≤ 16777216 }
-    ensures answered { IfOk result (λ r. IsScriptRun (script_of OnThreads text.now) (outcome_of r)) }
+    ensures answered { IfOk result (λ r. IsScriptRun (record { old = map B.seats benches.old.items; new = map B.seats benches.new.items }) (script_of OnThreads text.now) (outcome_of r)) }
+    ensures heeded { OnOk result (AreHeededIn (record { old = map B.seats benches.old.items; new = map B.seats benches.new.items }) OnThreads (script_of OnThreads text.now)) }
+    ensures lost { OnErr result (AreLost (record { old = map B.seats benches.old.items; new = map B.seats benches.new.items })) }
     ensures settled { IfOk result (λ r. IsFinal r.status) }
 {
     match read_script(alloc, text, Mode::Run) {
@@ -203,7 +206,7 @@ fn text_response<R: Threads + Wait + Sync, B: Seated + Drop + Send, G: Gate + Sy
     requires { length text.now ≤ 16777216 }
     ensures answered { IfOk result (λ r. IsOutcome (record { old = map B.seats benches.old.items; new = map B.seats benches.new.items }) (command_in mode) text.now (outcome_of r)) }
     ensures heeded { OnOk result (AreHeededBy (record { old = map B.seats benches.old.items; new = map B.seats benches.new.items }) (command_in mode) text.now) }
-    ensures unheard { IsUnheard (record { old = map B.seats benches.old.items; new = map B.seats benches.new.items }) (command_in mode) }
+    ensures left { OnErr result (AreLeft (record { old = map B.seats benches.old.items; new = map B.seats benches.new.items }) (command_in mode)) }
     ensures settled { IfOk result (λ r. IsFinal r.status) }
 {
     match mode {
@@ -222,7 +225,8 @@ fn source_response<R: Threads + Wait + Sync, S: Source, B: Seated + Drop + Send,
     gate: &G,
 ) -> Result<Response, Failure>
     ensures answered { IfOk result (Responds (record { old = map B.seats benches.old.items; new = map B.seats benches.new.items }) (command_in mode) (S.left source.old) (S.left source.new)) }
-    ensures unheard { IsUnheard (record { old = map B.seats benches.old.items; new = map B.seats benches.new.items }) (command_in mode) }
+    ensures left { IsErrOf result Failure.NoMemory → AreLeft (record { old = map B.seats benches.old.items; new = map B.seats benches.new.items }) (command_in mode) }
+    ensures unheard { IsErrOf result Failure.ReadFault → map B.seats benches.new.items ≡ map B.seats benches.old.items }
     ensures unread { IsErrOf result Failure.ReadFault → TakesFew (S.left source.old) (S.left source.new) 16777216 }
     ensures asked { TakesFew (S.left source.old) (S.left source.new) (16777216 + 4096) }
     ensures cause { HasFailureCause (S.faults source.old) (S.faults source.new) result }
@@ -247,7 +251,8 @@ fn respond<R: Threads + Wait + Sync, S: Source, B: Seated + Drop + Send, G: Gate
     gate: &G,
 ) -> Result<Response, Failure>
     ensures answered { IfOk result (Responds (record { old = map B.seats benches.old.items; new = map B.seats benches.new.items }) command (S.left source.old) (S.left source.new)) }
-    ensures unheard { IsUnheard (record { old = map B.seats benches.old.items; new = map B.seats benches.new.items }) command }
+    ensures left { IsErrOf result Failure.NoMemory → AreLeft (record { old = map B.seats benches.old.items; new = map B.seats benches.new.items }) command }
+    ensures unheard { IsErrOf result Failure.ReadFault → map B.seats benches.new.items ≡ map B.seats benches.old.items }
     ensures unread { IsErrOf result Failure.ReadFault → IsUnread command (S.left source.old) (S.left source.new) }
     ensures asked { Asks command (S.left source.old) (S.left source.new) }
     ensures cause { HasFailureCause (S.faults source.old) (S.faults source.new) result }
@@ -276,10 +281,10 @@ fn write_out<K: Sink>(response: &Response, sink: &mut K) -> Status
 }
 
 /// Does all that the program does: what the words of the command line ask for, from the source to
-/// the sink. The whole script is read and checked before a line of it runs. `replay` alone asks the
-/// drivers' benches of schedulers, the first of which is the first driver's. `run` alone starts
-/// threads and asks the gate: each line is answered once the gate lets its actor, or was asked
-/// 1,000,000 times, and the gate hears of the answer.
+/// the sink. The whole script is read and checked before a line of it runs. `replay` and `run` ask the
+/// drivers' benches of schedulers, the first of which is the first driver's; where `run` wants memory,
+/// all benches may be gone. `run` alone starts threads and asks the gate: each line is answered once the
+/// gate lets its actor, or was asked 1,000,000 times, and the gate hears of the answer.
 pub fn pd_top<
     R: Threads + Wait + Sync,
     S: Source,
@@ -300,7 +305,7 @@ pub fn pd_top<
 
     ensures unread { IfNone (command_of (map string_bytes words.now)) (Keeps (S.left source.old) (S.left source.new)) }
 
-    // A command: the outcome of the text that was read, whose answers are a safe history; of `run` that of any lawful run.
+    // A command: the outcome of the text that was read, whose answers are a safe history; of `run` that of any lawful run over the benches.
     ensures answer { IfSome (command_of (map string_bytes words.now)) (λ command. Ends (record { old = map B.seats benches.old.items; new = map B.seats benches.new.items }) command result (S.left source.old) (S.left source.new) (K.held sink.old) (K.held sink.new)) }
 
     // The headline: what was printed are answers to the lines that were read, and grants no timestamp twice.
@@ -309,7 +314,7 @@ pub fn pd_top<
     // The headline of placement steps: each step that was printed was sent by an entry of a driver's journal, and was safe there.
     ensures steps { IfSome (command_of (map string_bytes words.now)) (λ command. IsStepHeadline command result (S.left source.old) (S.left source.new) (K.held sink.old) (K.held sink.new)) }
 
-    // The proposals in the answers to a driver's lines are, in order, what its bench said; of `replay` alone a bench is asked.
+    // The proposals in the answers to a driver's lines are, in order, what its bench said; `tso` asks no bench.
     ensures heeded { IfSome (command_of (map string_bytes words.now)) (λ command. IsHeededBy (record { old = map B.seats benches.old.items; new = map B.seats benches.new.items }) command result (S.left source.old) (S.left source.new) (K.held sink.old) (K.held sink.new)) }
 
     // Words in no form ask no bench.

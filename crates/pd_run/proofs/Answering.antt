@@ -1,5 +1,5 @@
 -- What one line of a driver did.
-use Rattle.std.proofs.Common.{◌≡◌, ◌∙◌, ℕ, List, [], ◌∷◌, ◌++◌, refl, sym, ap, subst}
+use Rattle.std.proofs.Common.{◌≡◌, ◌∙◌, ℕ, [], ◌∷◌, refl, sym, ap, subst}
 use Rattle.std.specs.Prelude.{Option, Some, None}
 use Rattle.std.proofs.lemmas.List.{append-nil}
 use Rattle.pd_types.specs.declared.request.Request.{Request}
@@ -9,7 +9,6 @@ use Rattle.tso_driver.specs.declared.said.DriverSaid.{DriverSaid}
 use Rattle.tso_run.specs.declared.line.DriverAsk.{DriverAsk}
 use Rattle.tso_run.specs.Lines.{driver_ask}
 use Rattle.sched_api.specs.Benches.{Seats}
-use Rattle.pd_state.specs.declared.entry.Entry.{Entry}
 use Rattle.pd_state.specs.declared.reply.Reply.{Reply}
 use Rattle.pd_run.specs.Answers.{asked_besides}
 use Rattle.pd_run.specs.Heard.{seats_of}

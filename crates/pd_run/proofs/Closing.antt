@@ -1,9 +1,9 @@
 -- One driver's cluster is closed: what is taken of the stores for it, and what is known of it then.
-use Rattle.std.proofs.Common.{◌≡◌, ℕ, suc, ◌==◌, ◌<◌, cond, List, [], ◌∷◌, ◌++◌, false, length, map, refl, sym, ap, ◌∙◌, arith, subst, eq-eqb, ne_eqb}
+use Rattle.std.proofs.Common.{◌≡◌, ℕ, suc, ◌<◌, cond, List, [], ◌∷◌, length, map, refl, sym, ap, ◌∙◌, arith, subst, eq-eqb, ne_eqb}
 use Rattle.std.specs.Prelude.{All, Contains, zip}
 use mathlib.Core.Option.{some}
 use Rattle.std.specs.List.{AllZip}
-use Rattle.std.proofs.lemmas.List.Elements.{All-cons, All-contains, All-contains_itself, All-head, All-map, All-nil, All-tail, All-weaker}
+use Rattle.std.proofs.lemmas.List.Elements.{All-cons, All-contains, All-contains_itself, All-head, All-nil, All-tail, All-weaker}
 use Rattle.pd_turn.specs.Turns.{Among, AreApart, TurnValue}
 use Rattle.pd_types.specs.declared.oracle.Actor.{Actor}
 use Rattle.pd_types.specs.declared.oracle.Actor.TheVariants.{Driver, Store}
@@ -14,7 +14,7 @@ use Rattle.pd_state.specs.declared.entry.Entry.{Entry}
 use Rattle.pd_shared.specs.Names.{StreamName, stream_name}
 use Rattle.pd_shared.specs.Outlets.{ArePushed, IsServed, OutletValue, sends_to}
 use Rattle.pd_shared.specs.Shares.{AreSharesOf, IsInJournal, ShareValue, SharedValue, actor_of, actors_of, entries_of}
-use Rattle.pd_run.specs.Ends.{ClosesOne, EndsOf, HasPortTo, IsClosed, IsClosing, IsDriverOfCluster, IsDriversOwn, IsSettled, LostPort, LostPorts}
+use Rattle.pd_run.specs.Ends.{EndsOf, HasPortTo, IsClosed, IsClosing, IsDriverOfCluster, IsDriversOwn, IsSettled, LostPort, LostPorts}
 use Rattle.pd_run.specs.Runs.{ArePopped}
 use Rattle.pd_run.specs.Works.{IsPort, made_at, popped_at}
 use Rattle.pd_run.specs.declared.driving.DriverWork.{DriverWork}

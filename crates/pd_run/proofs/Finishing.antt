@@ -4,7 +4,6 @@ use Rattle.std.specs.Prelude.{map, All, Contains}
 use Rattle.std.specs.List.{AllZip}
 use Rattle.std.proofs.lemmas.List.Elements.{All-cons, All-contains, All-head, All-nil, All-tail}
 use Rattle.atomic_table.specs.Seated.{TableId}
-use Rattle.pd_turn.specs.Turns.{TurnValue}
 use Rattle.sched_api.specs.Benches.{Seats}
 use Rattle.tso_model.specs.declared.view.View.{View}
 use Rattle.tso_model.specs.Moves.{numbers_from}
@@ -13,7 +12,7 @@ use Rattle.tso_board.specs.declared.board.Board.{Board}
 use Rattle.tso_board.specs.declared.opening.Crew.{Crew}
 use Rattle.tso_board.specs.declared.pass.Pass.{Pass}
 use Rattle.tso_board.specs.declared.seat.DriverSeat.{DriverSeat}
-use Rattle.tso_board.specs.Actors.{client_view, driver_view}
+use Rattle.tso_board.specs.Actors.{driver_view}
 use Rattle.tso_board.specs.Boards.{setup_of}
 use Rattle.tso_board.specs.Crews.{IsWhole, ledger_batches, ledger_windows}
 use Rattle.tso_board.specs.Ledger.{GatheredFrom, HasEach}
@@ -22,11 +21,10 @@ use Rattle.tso_board.specs.Seats.{IsSeatOf, seat_view}
 use Rattle.tso_client.specs.Posts.{IsPost}
 use Rattle.tso_client.specs.Slips.{IsInJournal, SlipValue}
 use Rattle.tso_driver.specs.Drivers.{IsDriverOf, seat_of, view_of}
-use Rattle.tso_outcome.specs.Clients.{Client}
 use Rattle.tso_outcome.specs.Drives.{Drove}
-use Rattle.tso_outcome.specs.Ends.{ClientEnd, DriverEnd, IsFinished}
+use Rattle.tso_outcome.specs.Ends.{DriverEnd, IsFinished}
 use Rattle.tso_outcome.specs.Lawful.{IsLawful as IsLawfulOracle}
-use Rattle.tso_outcome.specs.Runs.{DriverPart as OraclePart, Run as OracleRun}
+use Rattle.tso_outcome.specs.Runs.{Run as OracleRun}
 use Rattle.tso_outcome.proofs.Above.{in_map, keep_batches}
 use Rattle.tso_outcome.proofs.Again.{keep_refusals}
 use Rattle.tso_outcome.proofs.Drives.{drove_driver}
@@ -35,14 +33,14 @@ use Rattle.tso_outcome.proofs.Plans.{keep_windows}
 use Rattle.tso_outcome.proofs.Terms.{keep_terms}
 use Rattle.tso_run.specs.declared.caller.ClientWork.{ClientWork}
 use Rattle.tso_run.specs.declared.line.ClientLine.{ClientLine}
-use Rattle.tso_run.specs.Runs.{client_answers, client_part}
+use Rattle.tso_run.specs.Runs.{client_answers}
 use Rattle.tso_run.specs.Works.{IsNewClient}
 use Rattle.tso_run.proofs.Ending.{ClientDone, all_by, all_map, client_end, client_views, clients_done, clients_each, ends_drew, ends_numbers, ends_slips, has_each, map-map, map-same, parts_are, passes_are, slips_are}
 use Rattle.tso_run.proofs.Rows.{rows_length}
 use Rattle.pd_run.specs.Answers.{oracle_answers}
 use Rattle.pd_run.specs.Crews.{CameFrom}
 use Rattle.pd_run.specs.Ends.{driver_part_of}
-use Rattle.pd_run.specs.Runs.{DriverPart, driver_part, oracle_part, run_of}
+use Rattle.pd_run.specs.Runs.{driver_part, oracle_part, run_of}
 use Rattle.pd_run.specs.Works.{DriverWorked, IsNewDriver}
 use Rattle.pd_run.specs.declared.answer.DriverAnswers.{DriverAnswers as DriverLeft}
 use Rattle.pd_run.specs.declared.begin.Workers.{Workers}

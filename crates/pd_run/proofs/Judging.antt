@@ -1,5 +1,5 @@
 -- What of a run is lawful, once its clusters and its metadata are closed.
-use Rattle.std.proofs.Common.{◌≡◌, ℕ, zero, suc, ◌+◌, ◌==◌, List, [], ◌∷◌, ◌++◌, false, get_or, length, map, reverse, refl, sym, ap, ◌∙◌, arith, subst, append_assoc}
+use Rattle.std.proofs.Common.{◌≡◌, ℕ, zero, suc, ◌+◌, List, [], ◌∷◌, ◌++◌, false, get_or, length, map, reverse, refl, sym, ap, ◌∙◌, arith, subst, append_assoc}
 use Rattle.std.specs.Prelude.{All, Contains, Option, Some, None, flat_map}
 use Rattle.std.specs.Option.{is_some}
 use Rattle.std.specs.List.{AllZip}
@@ -19,8 +19,8 @@ use Rattle.pd_state.specs.Clusters.{ClusterValue}
 use Rattle.pd_state.specs.declared.entry.Entry.{Entry}
 use Rattle.pd_shared.specs.Shares.{SharedValue, actor_of, entries_of}
 use Rattle.pd_run.specs.Ends.{AreClosed, IsClosed, IsDriversOwn, driver_part_of, lent, part_of}
-use Rattle.pd_run.specs.Heard.{AreHeard, HeardAll, no_seats, seats_of}
-use Rattle.pd_run.specs.Runs.{ArePopped, DriverAnswersLines, DriverPart, DriversAnswer, IsLawfulJournal, Journal, StoreAnswersLines, StorePart, callers, journal_of, taken_by, taken_of}
+use Rattle.pd_run.specs.Heard.{AreHeard, HeardAll, seats_of}
+use Rattle.pd_run.specs.Runs.{ArePopped, DriversAnswer, IsLawfulJournal, Journal, StoreAnswersLines, StorePart, callers, journal_of, taken_by, taken_of}
 use Rattle.pd_run.specs.Starts.{AreDealt}
 use Rattle.pd_run.specs.Turns.{DriverAnswered, StoreAnswered, StoreTurn, store_answer, taken_at}
 use Rattle.pd_run.specs.Works.{DriverWorked, StoreWorked, made_at, popped_at}

@@ -1,12 +1,11 @@
 -- What all workers hand back to the end of a run.
-use Rattle.std.proofs.Common.{◌≡◌, ℕ, zero, suc, ◌+◌, ◌-◌, List, [], ◌∷◌, ◌++◌, Bool, false, get_or, length, map, refl, sym, ap, ◌∙◌, arith, subst, append_assoc}
+use Rattle.std.proofs.Common.{◌≡◌, ℕ, suc, ◌+◌, ◌-◌, List, [], ◌∷◌, ◌++◌, Bool, false, get_or, length, map, refl, sym, ap, ◌∙◌, arith, subst, append_assoc}
 use Rattle.std.specs.Prelude.{All}
 use Rattle.std.specs.List.{AllZip}
 use Rattle.std.proofs.lemmas.List.{length-append}
 use Rattle.std.proofs.lemmas.List.Elements.{All-cons, All-head, All-nil, All-tail}
 use Rattle.atomic_table.specs.Seated.{TableId}
 use Rattle.pd_types.specs.declared.oracle.Actor.TheVariants.{Driver}
-use Rattle.pd_turn.specs.Turns.{AreApart}
 use Rattle.tso_model.specs.Moves.{numbers_from}
 use Rattle.tso_board.specs.declared.board.Board.{Board}
 use Rattle.tso_run.specs.declared.line.ClientLine.{ClientLine}
@@ -61,10 +60,11 @@ module _ {N B : Type 0} (seats : B → Seats) (board : Board) (ids : List ℕ) w
       let count : length (front ++ c ∷ []) ≡ length front + 1 = length-append front (c ∷ []) in
       let behind : all ≡ (front ++ c ∷ []) ++ cs = is ∙ sym (append_assoc front (c ∷ []) cs) in
       let rest = drivers_of (front ++ c ∷ []) cs all vs ws behind (ap rest_of clusters ∙ ap (λ n. numbers_from (n + 1) (length cs)) (sym count)) (ap rest_of numbers ∙ ap (λ n. numbers_from (n + 1) (length cs)) (sym count))
-          (All-tail (λ (x : SharedValue). x.turn.numbers ≡ 0 ∷ ids) c cs shares) (All-tail (IsNewDriver board all) v vs new) worked.1 in
-      (driver_of front c cs v w (ap (head_or v.number) numbers) (ap (head_or c.driver) clusters) (All-head (λ (x : SharedValue). x.turn.numbers ≡ 0 ∷ ids) c cs shares)
-      (subst (λ l. IsNewDriver board l v) is (All-head (IsNewDriver board all) v vs new)) worked.0,
-      subst (λ n. AreDriversOf ids n ws cs) count rest)
+      (All-tail (λ (x : SharedValue). x.turn.numbers ≡ 0 ∷ ids) c cs shares) (All-tail (IsNewDriver board all) v vs new) worked.1 in (
+        driver_of front c cs v w (ap (head_or v.number) numbers) (ap (head_or c.driver) clusters) (All-head (λ (x : SharedValue). x.turn.numbers ≡ 0 ∷ ids) c cs shares)
+            (subst (λ l. IsNewDriver board l v) is (All-head (IsNewDriver board all) v vs new)) worked.0,
+        subst (λ n. AreDriversOf ids n ws cs) count rest,
+      )
 
 -- STORES
 module _ {N : Type 0} where

@@ -23,7 +23,7 @@ use Rattle.pd_state.specs.Clusters.{ClusterValue}
 use Rattle.pd_run.specs.Crews.{CameFrom}
 use Rattle.pd_run.specs.Ends.{AreClosed, IsDriversOwn, driver_part_of, lent, part_of}
 use Rattle.pd_run.specs.Heard.{AreHeard}
-use Rattle.pd_run.specs.Runs.{AnswersTasks, DriverPart, DriversAnswer, IsLawful, IsLawfulJournal, Journal, StoreAnswersLines, StorePart, driver_part, journal_of, oracle_part, run_of, store_part}
+use Rattle.pd_run.specs.Runs.{AnswersTasks, DriverPart, DriversAnswer, IsLawful, IsLawfulJournal, StoreAnswersLines, StorePart, driver_part, journal_of, oracle_part, run_of, store_part}
 use Rattle.pd_run.specs.Starts.{AreDealt, AreSpareSeats}
 use Rattle.pd_run.specs.declared.begin.Workers.{Workers}
 use Rattle.pd_run.specs.declared.driving.DriverWork.{DriverWork}

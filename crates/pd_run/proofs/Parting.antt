@@ -1,14 +1,12 @@
 -- The clusters of all drivers are closed, one after the other.
-use Rattle.std.proofs.Common.{◌≡◌, ℕ, zero, suc, ◌+◌, List, [], ◌∷◌, ◌++◌, false, length, map, refl, sym, ap, ◌∙◌, arith, subst, append_assoc}
+use Rattle.std.proofs.Common.{◌≡◌, ℕ, suc, ◌+◌, List, [], ◌∷◌, ◌++◌, false, length, map, refl, sym, ap, ◌∙◌, arith, subst, append_assoc}
 use Rattle.std.specs.Prelude.{All, Contains, flat_map}
 use Rattle.std.specs.List.{AllZip}
 use Rattle.std.proofs.lemmas.Grind.{flat_map-append}
 use Rattle.std.proofs.lemmas.List.{append-nil, length-append, map-append}
 use Rattle.std.proofs.lemmas.List.Elements.{All-cons, All-head, All-nil, All-push, All-tail, All-weaker}
 use Rattle.pd_turn.specs.Turns.{TurnValue}
-use Rattle.pd_types.specs.declared.oracle.Actor.{Actor}
 use Rattle.pd_types.specs.declared.oracle.Actor.TheVariants.{Store}
-use Rattle.tso_board.specs.declared.seat.DriverSeat.{DriverSeat}
 use Rattle.tso_driver.specs.Drivers.{seat_of}
 use Rattle.meta_store.specs.Seats.{SeatValue}
 use Rattle.pd_state.specs.Clusters.{ClusterValue}
@@ -17,7 +15,7 @@ use Rattle.pd_shared.specs.Names.{StreamName, stream_name}
 use Rattle.pd_shared.specs.Shares.{SharedValue, actor_of, entries_of}
 use Rattle.pd_run.specs.Crews.{AreNamed}
 use Rattle.pd_run.specs.Ends.{AreClosed, AreDriversOf, ClosesOne, HasPorts, HasPortTo, IsClosed, IsDriverOfCluster, IsDriversOwn, LostPort, LostPorts, driver_part_of, lent, part_of}
-use Rattle.pd_run.specs.Runs.{ArePopped, DriverPart, driver_part}
+use Rattle.pd_run.specs.Runs.{ArePopped, driver_part}
 use Rattle.pd_run.specs.Works.{ArePorts, listed_at, made_at, popped_at, streams_at}
 use Rattle.pd_run.specs.declared.driving.DriverWork.{DriverWork}
 use Rattle.pd_run.specs.declared.end.DriverParts.{DriverParts}

@@ -1,5 +1,5 @@
 -- From the seats, streams and lines of a run to what its drivers begin with.
-use Rattle.std.proofs.Common.{◌≡◌, ℕ, zero, suc, ◌+◌, ◌-◌, ◌<◌, ◌≤◌, ◌==◌, eqb, Bool, cond, List, [], ◌∷◌, ◌++◌, filter, length, map, refl, sym, ap, ◌∙◌, arith, subst, eq-eqb, ne_eqb}
+use Rattle.std.proofs.Common.{◌≡◌, ℕ, zero, suc, ◌+◌, ◌-◌, ◌<◌, ◌==◌, cond, List, [], ◌∷◌, ◌++◌, length, map, refl, sym, ap, ◌∙◌, arith, subst, eq-eqb, ne_eqb}
 use Rattle.std.specs.Prelude.{All}
 use Rattle.std.proofs.lemmas.List.{append-nil}
 use Rattle.std.proofs.lemmas.List.Elements.{All-head, All-tail, filter-append}
@@ -10,11 +10,10 @@ use Rattle.tso_board.specs.declared.seat.DriverSeat.{DriverSeat}
 use Rattle.tso_board.specs.Actors.{driver_view}
 use Rattle.tso_board.specs.Boards.{setup_of}
 use Rattle.tso_board.specs.Seats.{IsSeatOf, seat_view}
-use Rattle.tso_model.specs.declared.view.View.{View}
 use Rattle.tso_run.proofs.Rows.{row_length, rows_length}
 use Rattle.meta_store.specs.Seats.{AreOpened, SeatValue, new_seat}
-use Rattle.pd_shared.specs.Names.{StreamName, stream_name, streams_of}
-use Rattle.pd_run.specs.Crews.{AreStarts, IsStart}
+use Rattle.pd_shared.specs.Names.{StreamName, streams_of}
+use Rattle.pd_run.specs.Crews.{AreStarts}
 use Rattle.pd_run.specs.Pipes.{ArePipesTo, names_from, pipe_name}
 use Rattle.pd_run.specs.Starts.{AreHandedOut, AreNewSeats, AreSpareSeats, turn_of_seats}
 use Rattle.pd_run.specs.declared.begin.Start.{Start}
@@ -125,8 +124,8 @@ module _ {B : Type 0} (board : Board) (meta : TurnValue) (names : List StreamNam
       listed = streams (before + 1) (omega arith) ∙ first_streams (before + 1) s.pipes.items (map pipes_at starts);
     },
     are_starts (before + 1) n m starts others (ap rest_of numbers) (ap rest_of views) (All-tail (λ (x : DriverSeat). IsSeatOf x board) s.oracle (map (λ (x : Start B). x.oracle) starts) seats) (ap rest_of metas)
-    (All-tail (ArePipesTo stores) s.pipes.items (map pipes_at starts) pipes)
-    (λ d low. streams d (omega (arith, low)) ∙ later_streams d (before + 1) s.pipes.items (map pipes_at starts) low),
+        (All-tail (ArePipesTo stores) s.pipes.items (map pipes_at starts) pipes)
+        (λ d low. streams d (omega (arith, low)) ∙ later_streams d (before + 1) s.pipes.items (map pipes_at starts) low),
   )
 
   pub all_starts : (n : ℕ) (starts : List (Start B)) (seats : List DriverSeat) (old new : List SeatValue) (pipes : List (List Pipe)) → map (λ (s : Start B). s.driver) starts ≡ numbers_from 1 n → map (λ (s : Start B). s.oracle) starts ≡ seats

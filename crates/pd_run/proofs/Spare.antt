@@ -1,5 +1,5 @@
 -- Who made calls of the metadata: nobody without a cluster.
-use Rattle.std.proofs.Common.{◌≡◌, ℕ, zero, suc, ◌+◌, ◌-◌, ◌<◌, ◌≤◌, List, [], ◌∷◌, ◌++◌, length, map, reverse, refl, sym, ap, ◌∙◌, arith, subst, ⊎_elim}
+use Rattle.std.proofs.Common.{◌≡◌, ℕ, zero, suc, ◌+◌, ◌-◌, ◌<◌, ◌≤◌, List, [], ◌∷◌, ◌++◌, length, reverse, refl, sym, ap, ◌∙◌, arith, subst, ⊎_elim}
 use Rattle.std.specs.Prelude.{All, Contains}
 use mathlib.Core.Logic.{dite}
 use mathlib.Core.Option.{some, some-injective, some-ne-none}
@@ -34,10 +34,10 @@ heard_some (x ∷ past) e there none =
     let parts : items_of e.driver (tale_of past) ++ items_of e.driver one ≡ [] = sym (items_of-append e.driver (tale_of past) one) ∙ none in
     ⊎_elim
     (λ (same : x ≡ e).
-        let own : items_of e.driver one ≡ heard_of past x ∷ [] = ap (λ (y : MetaEntry). items_of y.driver one) (sym same) ∙ items_of-own x.driver (heard_of past x ∷ []) in
-        let long : length (items_of e.driver one) ≡ 1 = ap length own in
-        let short = back_none (items_of e.driver (tale_of past)) (items_of e.driver one) parts in
-        absurd (omega (arith, long, short)))
+    let own : items_of e.driver one ≡ heard_of past x ∷ [] = ap (λ (y : MetaEntry). items_of y.driver one) (sym same) ∙ items_of-own x.driver (heard_of past x ∷ []) in
+    let long : length (items_of e.driver one) ≡ 1 = ap length own in
+    let short = back_none (items_of e.driver (tale_of past)) (items_of e.driver one) parts in
+    absurd (omega (arith, long, short)))
     (λ (t : Contains past e). heard_some past e t (none_of (items_of e.driver (tale_of past)) (front_none (items_of e.driver (tale_of past)) (items_of e.driver one) parts)))
     (in_cons x past e there)
 
@@ -80,8 +80,8 @@ module _ (meta : TurnValue) (drivers : ℕ) (few : drivers ≤ 7) (spare : List 
       dite (dec_le e.driver 0)
       (λ none. absurd (not_spare e there (subst (Contains (0 ∷ numbers_from (drivers + 1) (7 - drivers))) (let z : 0 ≡ e.driver = omega (arith, none) in z) (in_head 0 (numbers_from (drivers + 1) (7 - drivers))))))
       (λ some_driver. dite (dec_le e.driver drivers)
-          (λ within. has_numbers 1 drivers e.driver (omega (arith, some_driver)) (omega (arith, within)))
-          (λ beyond. absurd (not_spare e there (in_tail 0 (numbers_from (drivers + 1) (7 - drivers)) e.driver (has_numbers (drivers + 1) (7 - drivers) e.driver (omega (arith, beyond)) (omega (arith, low.1, few, beyond)))))))
+      (λ within. has_numbers 1 drivers e.driver (omega (arith, some_driver)) (omega (arith, within)))
+      (λ beyond. absurd (not_spare e there (in_tail 0 (numbers_from (drivers + 1) (7 - drivers)) e.driver (has_numbers (drivers + 1) (7 - drivers) e.driver (omega (arith, beyond)) (omega (arith, low.1, few, beyond)))))))
 
   pub alone : All (λ (e : MetaEntry). Contains (numbers_from 1 drivers) e.driver) journal
   alone = All-weaker (Contains journal) (λ (e : MetaEntry). Contains (numbers_from 1 drivers) e.driver) has_cluster journal (All-contains_itself journal)

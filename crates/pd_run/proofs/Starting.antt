@@ -1,8 +1,8 @@
 -- What each driver begins with, one after the other.
-use Rattle.std.proofs.Common.{Vec, Global, ◌≡◌, ℕ, zero, suc, ◌+◌, ◌-◌, ◌<◌, ◌≤◌, List, [], ◌∷◌, ◌++◌, get_or, length, map, refl, sym, ap, ◌∙◌, arith, subst, append_assoc}
+use Rattle.std.proofs.Common.{Vec, Global, ◌≡◌, ℕ, suc, ◌+◌, ◌<◌, List, [], ◌∷◌, ◌++◌, get_or, length, map, refl, sym, ap, ◌∙◌, arith, subst, append_assoc}
 use mathlib.Core.Bool.{true≢false}
 use Rattle.std.specs.Prelude.{IsSome, Option, Some, None, option_to_list, remove, ◌↔◌}
-use Rattle.std.proofs.lemmas.List.{append-nil, length-append, map-append}
+use Rattle.std.proofs.lemmas.List.{length-append, map-append}
 use Rattle.tso_board.specs.declared.seat.DriverSeat.{DriverSeat}
 use Rattle.tso_model.specs.Moves.{numbers_from}
 use Rattle.tso_run.proofs.Rows.{numbered, rows_length}

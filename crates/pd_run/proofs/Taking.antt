@@ -1,5 +1,5 @@
 -- The stores lose their first ports, one store after the other.
-use Rattle.std.proofs.Common.{◌≡◌, ℕ, zero, suc, ◌<◌, List, [], ◌∷◌, ◌++◌, get_or, length, map, refl, sym, ap, ◌∙◌, arith, subst, append_assoc}
+use Rattle.std.proofs.Common.{◌≡◌, ℕ, ◌<◌, List, [], ◌∷◌, ◌++◌, get_or, length, map, refl, sym, ap, ◌∙◌, arith, subst, append_assoc}
 use Rattle.std.specs.Prelude.{remove, zip}
 use Rattle.std.proofs.lemmas.List.{append-nil, map-append}
 use Rattle.step_stream.specs.Streams.{EndValue}

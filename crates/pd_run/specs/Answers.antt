@@ -1,5 +1,5 @@
 -- What the answers of drivers and stores say, each for itself.
-use Rattle.std.specs.Prelude.{ℕ, ◌==◌, List, [], ◌∷◌, Bool, true, false, codes, Option, Some, None, flat_map, if◌then◌else◌}
+use Rattle.std.specs.Prelude.{ℕ, List, [], ◌∷◌, Bool, true, false, codes, Option, Some, None, flat_map}
 use Rattle.std.specs.Str.{bytes_eq}
 use Rattle.pd_types.specs.declared.request.Request.{Request}
 use Rattle.pd_types.specs.declared.request.Request.TheVariants.{Term, Retire}

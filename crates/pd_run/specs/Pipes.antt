@@ -1,7 +1,6 @@
 -- The streams of a run, from each driver's cluster to each store that acts, and the ports that stores get.
 use Rattle.std.specs.Prelude.{◌≡◌, ℕ, ◌+◌, List, [], ◌∷◌, ◌++◌, false, All, map}
 use Rattle.std.specs.Arc.{arc_value}
-use Rattle.atomic_table.specs.Seated.{TableId}
 use Rattle.step_stream.specs.Streams.{end_value}
 use Rattle.pd_shared.specs.Names.{StreamName, stream_name}
 use Rattle.pd_shared.specs.Outlets.{OutletValue, outlet_of}

@@ -1,5 +1,5 @@
 -- What a runner may be handed.
-use Rattle.std.specs.Prelude.{◌≡◌, ℕ, ◌<◌, ◌≤◌, List, ◌∷◌, All, length, map}
+use Rattle.std.specs.Prelude.{◌≡◌, ℕ, ◌<◌, ◌≤◌, ◌∷◌, All, length, map}
 use Rattle.pd_turn.specs.Turns.{AreApart}
 use Rattle.tso_model.specs.declared.view.Setup.{Setup}
 use Rattle.tso_run.specs.Lines.{IsCall}

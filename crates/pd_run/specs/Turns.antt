@@ -1,5 +1,5 @@
 -- Which line an answer is to, and which entries of a cluster's journal it made.
-use Rattle.std.specs.Prelude.{◌≡◌, ℕ, ◌+◌, ◌==◌, List, [], ◌∷◌, true, false, All, Option, Some, None, flat_map, map, if◌then◌else◌}
+use Rattle.std.specs.Prelude.{◌≡◌, ℕ, ◌==◌, List, [], ◌∷◌, true, false, All, Option, Some, None, flat_map, map, if◌then◌else◌}
 use Rattle.pd_types.specs.declared.request.Request.{Request}
 use Rattle.pd_types.specs.declared.step.StepMsg.{StepMsg}
 use Rattle.pd_state.specs.declared.entry.Entry.{Entry}

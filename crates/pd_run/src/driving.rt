@@ -195,7 +195,8 @@ impl<N: ClusterName, B: Seated> DriverWork<N, B> {
         let says = self
             .means
             .answer(rt, shared.alloc, shared.board, cluster, number, task)?;
-        self.answers.push_reserved(DriverAnswer { line: number, says });
+        self.answers
+            .push_reserved(DriverAnswer { line: number, says });
         shared.gate.done(actor, number);
         Ok(())
     }

@@ -60,9 +60,7 @@ impl<N: ClusterName> Port<N> {
                 let reply = cluster.call(rt, &mut self.share, number, request, &mut bench)?;
                 Ok(StoreSays::Cluster(reply))
             }
-            StoreTask::Pop => Ok(StoreSays::Popped(
-                self.stream.pop(rt, &mut self.taker),
-            )),
+            StoreTask::Pop => Ok(StoreSays::Popped(self.stream.pop(rt, &mut self.taker))),
         }
     }
 }

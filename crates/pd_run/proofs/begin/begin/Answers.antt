@@ -1,5 +1,4 @@
-use Rattle.std.proofs.Common.{rules, ◌≡◌, ◌∙◌, ◌∷◌, [], List, length, map, refl, sym, ap, arith, subst}
-use Rattle.std.specs.List.{AllZip}
+use Rattle.std.proofs.Common.{rules, ◌≡◌, ◌∙◌, ◌∷◌, length, map, sym, ap, arith, subst}
 use Rattle.pd_turn.specs.Turns.{AreApart}
 use Rattle.tso_model.specs.Moves.{numbers_from}
 use Rattle.tso_board.specs.Actors.{client_view}

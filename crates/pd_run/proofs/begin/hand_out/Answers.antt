@@ -1,4 +1,4 @@
-use Rattle.std.proofs.Common.{rules, ◌≡◌, ◌∙◌, length, sym, refl, ap, arith, subst, []}
+use Rattle.std.proofs.Common.{rules, ◌≡◌, length, refl, ap, arith}
 use Rattle.std.specs.Vec.Iter.{into_iter_items, into_iter_len}
 use Rattle.pd_run.proofs.Handing.{handed_more}
 use Rattle.pd_run.proofs.begin.hand_out.Goals as goal

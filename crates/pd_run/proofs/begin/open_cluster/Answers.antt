@@ -7,7 +7,7 @@ use Rattle.pd_run.specs.Pipes.{OpensPort}
 use Rattle.pd_run.specs.declared.storing.Port.{Port}
 use Rattle.pd_run.proofs.Lists.{none_of}
 use Rattle.pd_shared.specs.Outlets.{OutletValue}
-use Rattle.pd_run.proofs.Opening.{Ported, none_pushed, outlets_of, ported_all, ported_more, ported_none, ported_same}
+use Rattle.pd_run.proofs.Opening.{Ported, none_pushed, outlets_of, ported_all, ported_more, ported_none}
 use Rattle.pd_run.proofs.begin.open_cluster.Goals as goal
 
 pub open-requires-clause-givers : goal.open-requires-clause-givers

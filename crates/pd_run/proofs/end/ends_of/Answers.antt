@@ -1,4 +1,4 @@
-use Rattle.std.proofs.Common.{◌≡◌, ◌∙◌, ◌∷◌, ◌<◌, [], All, length, refl, sym, ap, subst}
+use Rattle.std.proofs.Common.{◌<◌, All, length, refl, sym, subst}
 use Rattle.std.proofs.lemmas.List.Elements.{All-rest}
 use Rattle.std.specs.Vec.Iter.{into_iter_items}
 use Rattle.pd_run.specs.declared.storing.StoreWork.{StoreWork}

@@ -1,4 +1,4 @@
-use Rattle.std.proofs.Common.{◌≡◌, subst}
+use Rattle.std.proofs.Common.{subst}
 use Rattle.pd_run.specs.Ends.{IsPlaceOf}
 use Rattle.pd_run.proofs.Settling.{stream_there}
 use Rattle.pd_run.proofs.end.settle.Goals as goal

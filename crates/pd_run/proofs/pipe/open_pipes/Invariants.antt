@@ -1,7 +1,6 @@
 use Rattle.std.proofs.Common.{◌≡◌, All, length, map}
 use Rattle.pd_run.specs.Pipes.{ArePipesTo}
 use Rattle.pd_run.specs.declared.line.StoreLines.{StoreLines}
-use Rattle.pd_run.specs.declared.pipe.Pipe.{Pipe}
 use Rattle.pd_run.proofs.pipe.open_pipes.Given as goal
 
 abbrev pub invariant-loop-driver : goal.invariant-loop-driver

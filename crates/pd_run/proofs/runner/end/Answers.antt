@@ -1,4 +1,4 @@
-use Rattle.std.proofs.Common.{◌≡◌, ◌∙◌, ◌++◌, List, All, map, refl, sym, ap, subst}
+use Rattle.std.proofs.Common.{◌∙◌, ◌++◌, List, All, refl, ap, subst}
 use Rattle.tso_board.specs.Boards.{setup_of}
 use Rattle.meta_store.specs.Seats.{IsHeard}
 use Rattle.pd_run.specs.declared.runner.Left.{Left}
@@ -50,10 +50,10 @@ pub returns-clause-answers : goal.returns-clause-answers
 returns-clause-answers g c =
     let left : Left = record { drivers = c.in_ok-parts.parts.answers; clients = c.in_ok-calls.calls.answers; stores = c.in_ok-stores.stores; clusters = c.in_ok-parts.parts.clusters; meta = c.in_ok-meta.meta; post = c.in_ok-post.post; ledger = c.in-Ok.ledger } in
     λ clients first from. answers_run {N = g.row.N.Denot} {B = g.row.B.Denot} g.N.BoardName.board g.N.ClusterName.streams g.B.Seated.seats c.args.board clients first c.args.workers from c.requires.setup c.in_ok-parts.ensures.fine c.in_ok-calls.ensures.fine (all_fine {N = g.row.N.Denot} c.in_ok-parts.parts.stores.items c.args.workers.stores.items c.in_ok-parts.ensures.failed c.in_ok-stores.ensures.fine) g.N.ClusterName.meta left c.in_ok-parts.parts.meta.items c.in_ok-parts.ensures.closed c.in_ok-parts.ensures.own
-        c.in_ok-parts.ensures.answers c.in_ok-calls.ensures.answers (c.in_ok-stores.ensures.answers ∙ c.in_ok-parts.ensures.stores)
+    c.in_ok-parts.ensures.answers c.in_ok-calls.ensures.answers (c.in_ok-stores.ensures.answers ∙ c.in_ok-parts.ensures.stores)
 
 pub returns-clause-heard : goal.returns-clause-heard
 returns-clause-heard g c =
     let left : Left = record { drivers = c.in_ok-parts.parts.answers; clients = c.in_ok-calls.calls.answers; stores = c.in_ok-stores.stores; clusters = c.in_ok-parts.parts.clusters; meta = c.in_ok-meta.meta; post = c.in_ok-post.post; ledger = c.in-Ok.ledger } in
     λ clients first benches from dealt. heard_run {N = g.row.N.Denot} {B = g.row.B.Denot} g.N.BoardName.board g.N.ClusterName.streams g.B.Seated.seats c.args.board clients first c.args.workers from c.requires.setup c.in_ok-parts.ensures.fine c.in_ok-calls.ensures.fine (all_fine {N = g.row.N.Denot} c.in_ok-parts.parts.stores.items c.args.workers.stores.items c.in_ok-parts.ensures.failed c.in_ok-stores.ensures.fine) g.N.ClusterName.meta left c.in_ok-parts.parts.meta.items c.in_ok-parts.ensures.closed c.in_ok-parts.ensures.own
-        benches c.args.others.items c.append-2.new.self.items dealt (c.in_ok-append-2.ensures.items ∙ ap (λ (l : List g.row.B.Denot). l ++ c.args.others.items) c.in_ok-parts.ensures.benches)
+    benches c.args.others.items c.append-2.new.self.items dealt (c.in_ok-append-2.ensures.items ∙ ap (λ (l : List g.row.B.Denot). l ++ c.args.others.items) c.in_ok-parts.ensures.benches)

@@ -1,4 +1,4 @@
-use Rattle.std.proofs.Common.{rules, ◌≡◌, ◌∙◌, length, map, refl, sym}
+use Rattle.std.proofs.Common.{rules, ◌≡◌, ◌∙◌, length, refl}
 use Rattle.pd_shared.specs.Names.{no_meta}
 use Rattle.pd_run.proofs.Readying.{opened_seats, seats_count}
 use Rattle.pd_run.proofs.runner.run.Goals as goal

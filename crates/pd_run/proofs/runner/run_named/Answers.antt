@@ -1,12 +1,9 @@
-use Rattle.std.proofs.Common.{◌≡◌, ◌∙◌, ◌∷◌, ◌≤◌, ℕ, List, All, Global, Option, Vec, length, map, refl, sym, ap, arith, subst}
-use Rattle.std.specs.Vec.Iter.{into_iter_items}
+use Rattle.std.proofs.Common.{◌≡◌, ◌∙◌, ◌∷◌, ℕ, List, Global, Option, Vec, length, map, sym, ap, arith, subst}
 use Rattle.pd_turn.specs.Turns.{AreApart}
 use Rattle.tso_model.specs.Moves.{numbers_from}
-use Rattle.tso_board.specs.Actors.{driver_view}
 use Rattle.tso_board.specs.Boards.{setup_of}
-use Rattle.tso_board.specs.Seats.{seat_view}
 use Rattle.tso_run.proofs.Ending.{all_map, map-map, ok_weaker}
-use Rattle.tso_run.proofs.Rows.{row_length, rows_length}
+use Rattle.tso_run.proofs.Rows.{rows_length}
 use Rattle.pd_state.specs.Clusters.{ClusterValue}
 use Rattle.tso_run.specs.declared.line.ClientLine.{ClientLine}
 use Rattle.pd_run.specs.Crews.{CameFrom}

@@ -1,4 +1,4 @@
-use Rattle.std.proofs.Common.{◌≡◌, ◌∙◌, ◌∷◌, [], map, ap}
+use Rattle.std.proofs.Common.{◌∙◌, ◌∷◌, [], map, ap}
 use Rattle.std.proofs.lemmas.List.{map-append}
 use Rattle.pd_run.specs.Runs.{driver_part}
 use Rattle.pd_run.proofs.Closing.{are_shares, drivers_own, has_ports, is_closed, named_ends}

@@ -1,4 +1,4 @@
-use Rattle.std.proofs.Common.{◌≡◌, ◌∙◌, ◌∷◌, ◌++◌, [], List, All, length, refl, sym, ap, subst}
+use Rattle.std.proofs.Common.{◌∙◌, ◌∷◌, ◌++◌, [], List, All, length, refl, sym, ap, subst}
 use Rattle.std.proofs.lemmas.List.{append_assoc}
 use Rattle.std.proofs.lemmas.List.Elements.{All-rest}
 use Rattle.std.specs.Vec.Iter.{into_iter_items}
@@ -40,6 +40,10 @@ loop-line-init g c = record {
   fine = c.requires.fine;
   lines = subst (All (GoesTo (length c.args.clusters.now))) (sym c.into_iter-line-iterator.ensures.into_iter_gives.0) c.requires.lines;
   streams = refl;
-  answered = ([], refl, subst (λ (y : List StoreAnswer). StoreAnswered [] y (made_at {N = g.row.N.Denot} c.args.self.now.ports.items) (popped_at {N = g.row.N.Denot} c.args.self.now.ports.items)) (sym c.requires.first)
-      (store_none (made_at {N = g.row.N.Denot} c.args.self.now.ports.items) (popped_at {N = g.row.N.Denot} c.args.self.now.ports.items) c.requires.none.made c.requires.none.popped));
+  answered = (
+    [],
+    refl,
+    subst (λ (y : List StoreAnswer). StoreAnswered [] y (made_at {N = g.row.N.Denot} c.args.self.now.ports.items) (popped_at {N = g.row.N.Denot} c.args.self.now.ports.items)) (sym c.requires.first)
+        (store_none (made_at {N = g.row.N.Denot} c.args.self.now.ports.items) (popped_at {N = g.row.N.Denot} c.args.self.now.ports.items) c.requires.none.made c.requires.none.popped),
+  );
 }
