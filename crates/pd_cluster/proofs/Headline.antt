@@ -47,12 +47,6 @@ none_read benches Replay a b held h = (h, keeps_itself held)
 none_read benches Run a b held h = (h, keeps_itself held)
 none_read benches (Tso timestamp) a b held h = h
 
--- no bench was asked
-pub none_asked : (benches : Benches) (command : Command) → benches.new ≡ benches.old → AreLeft benches command
-none_asked benches Replay h = tt
-none_asked benches Run h = inl h
-none_asked benches (Tso timestamp) h = h
-
 -- of a text that isn't too long
 pub short_heeded : (benches : Benches) (mode : Mode) (text : List ℕ) → length text ≤ 16777216 → AreHeededIn benches mode (script_of mode text) → AreHeededBy benches (command_in mode) text
 short_heeded benches mode text few h = by mode (subst (λ (long : Bool). AreHeededUnless benches mode long (script_of mode text)) (sym short) h)

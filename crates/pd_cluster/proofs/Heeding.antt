@@ -1,10 +1,10 @@
 -- What the answers of a replay tell that schedulers said is, driver by driver, what its benches said in it.
-use Rattle.std.proofs.Common.{◌≡◌, ◌≢◌, ◌⊎◌, inl, inr, ◌<◌, ◌≤◌, ℕ, zero, suc, ◌+◌, nat_eq, nat_le, min, Bool, true, false, cond, List, [], ◌∷◌, ◌++◌, length, length-set, map, take, drop, get_or, set, replicate, Option, Some, None, refl, sym, ap, subst, ◌∙◌, append_assoc, append-nil, arith}
+use Rattle.std.proofs.Common.{◌≡◌, ◌≢◌, ◌⊎◌, inl, inr, ◌<◌, ◌≤◌, ℕ, zero, suc, ◌+◌, nat_eq, nat_le, Bool, true, false, cond, List, [], ◌∷◌, ◌++◌, length, length-set, take, drop, get_or, replicate, Option, Some, None, refl, sym, ap, subst, ◌∙◌, append_assoc, append-nil, arith}
 use Rattle.std.proofs.Math.Seq.{drop-length}
 use Rattle.std.proofs.lemmas.Bool.Decides.{nat_tests}
 use Rattle.std.proofs.lemmas.List.{get_or-set_other, get_or-set_same}
 use Rattle.std.specs.List.{AllByRecursion}
-use Rattle.std.specs.Prelude.{IfOk, Result, Ok, Err, codes, flat_map, string_bytes}
+use Rattle.std.specs.Prelude.{Result, Ok, Err}
 use Rattle.pd_types.specs.declared.oracle.Actor.{Actor}
 use Rattle.pd_types.specs.declared.region.RegionBeat.{RegionBeat}
 use Rattle.pd_types.specs.declared.proposal.Proposal.{Proposal}
@@ -44,11 +44,11 @@ use Rattle.store_table.specs.declared.entry.StoreEntry.{StoreEntry}
 use Rattle.store_table.specs.declared.table.TheConstants.{MOST_STORES}
 use Rattle.pd_state.specs.Adding.{Around, Planning, Work, add_op, around_at, planning_of}
 use Rattle.pd_state.specs.Asking.{Hearing, Point, done, ended, hearing, value_or, waits, wanted, write}
-use Rattle.pd_state.specs.BenchHeard.{dropped, one_turn, turns_of}
+use Rattle.pd_state.specs.BenchHeard.{one_turn, turns_of}
 use Rattle.pd_state.specs.Calls.{next_call}
 use Rattle.pd_state.specs.Checking.{Burial, Deed, Round, bury_all, check_held, check_of, check_op, check_told, deed_of, first_round, idle, patrol, patrol_deed, patrol_of, planned, plans_in, sweep, told_in}
 use Rattle.pd_state.specs.Ctl.{added_by_hand, admin, command_done, ctl_of, delete_by, delete_found, deleted_by, deletion_by, limit_found, remove_found, reply_or, report_told, words_done}
-use Rattle.pd_state.specs.Legal.{beat_dispatch, first_reply, term_reply}
+use Rattle.pd_state.specs.Legal.{beat_dispatch, first_reply}
 use Rattle.pd_state.specs.Replies.{alive_reply, beat_reply, begun_reply, by_answers, hello_reply, or_then, removal_refused, rule_reply, set_refused, unrule_reply, verdict_refusal}
 use Rattle.pd_state.specs.Reports.{command_told}
 use Rattle.pd_state.specs.Scheduling.{heed, proposed, schedule, schedule_of, scheduler}
@@ -65,12 +65,11 @@ use Rattle.pd_script.specs.Scripts.{asker}
 use Rattle.pd_script.specs.declared.act.Act.{Act}
 use Rattle.pd_script.specs.declared.act.Act.TheVariants.{Ask, Pop}
 use Rattle.pd_script.specs.declared.act.Line.{Line}
-use Rattle.pd_script.specs.declared.script.Script.{Script}
 use Rattle.pd_cluster.specs.Answers.{Answer, driver_in}
-use Rattle.pd_cluster.specs.Replay.{Kept, State, act_step, answers_at, answers_from, asked_besides, asked_line, heard_at, lead_at, line_step, names_at, oracle_line, part_at, pop_line, said_at, served, state_after, talk_after, with_besides, with_served}
+use Rattle.pd_cluster.specs.Replay.{Kept, State, act_step, answers_at, answers_from, asked_besides, heard_at, lead_at, line_step, names_at, oracle_line, part_at, said_at, served, state_after, talk_after, with_besides, with_served}
 use Rattle.pd_cluster.specs.Talks.{AreHeeded, GoOn, Talk, heeded, heeded_by, heeded_of, silence, talk_at, talks_from, talks_of}
 use Rattle.pd_cluster.specs.declared.said.Said.{Said}
-use Rattle.pd_cluster.specs.declared.said.Said.TheVariants.{ByOracle, ByCluster, Popped}
+use Rattle.pd_cluster.specs.declared.said.Said.TheVariants.{ByCluster}
 use Rattle.pd_cluster.proofs.Benching.{all_silent}
 use Rattle.pd_cluster.proofs.Sending.{AreTurnless, IsTurnless, besides_turnless, nothing_said, put_at, served_asked}
 

@@ -1,13 +1,11 @@
 -- How far a replay came, however its benches go on.
-use Rattle.std.proofs.Common.{◌≡◌, ◌≤◌, ◌<◌, ℕ, suc, ◌+◌, Bool, true, None, List, [], ◌∷◌, ◌++◌, length, replicate, get_or, refl, sym, ap, subst, ◌∙◌, append-nil, arith}
+use Rattle.std.proofs.Common.{◌≡◌, ◌<◌, ℕ, suc, ◌+◌, true, None, List, [], ◌∷◌, ◌++◌, length, replicate, get_or, refl, sym, ap, subst, ◌∙◌, append-nil, arith}
 use Rattle.std.specs.Fmt.{decimal}
 use Rattle.std.specs.Prelude.{codes}
-use Rattle.std.specs.List.{AllByRecursion}
 use Rattle.std.proofs.lemmas.List.{length-append, length-replicate}
 use Rattle.std.proofs.lemmas.List.Elements.{recursion_from_All}
-use Rattle.pd_types.specs.declared.oracle.Actor.{Actor}
 use Rattle.pd_types.specs.declared.request.Request.{Request}
-use Rattle.pd_script.specs.Lawful.{IsLawful, IsLawfulScript, actor_in}
+use Rattle.pd_script.specs.Lawful.{IsLawfulScript}
 use Rattle.pd_script.specs.declared.act.Act.{Act}
 use Rattle.pd_script.specs.declared.act.Act.TheVariants.{Ask, Pop}
 use Rattle.pd_script.specs.declared.act.Line.{Line}
@@ -16,15 +14,15 @@ use Rattle.pd_script.specs.declared.script.Script.{Script}
 use Rattle.sched_api.specs.Benches.{Seats}
 use Rattle.sched_api.specs.declared.scheduler.Said.{Said as Heeded}
 use Rattle.pd_cluster.specs.Answers.{Answer, answer_text, answers_text, said_text}
-use Rattle.pd_cluster.specs.Clusters.{HoweverTheyEnd, IsReady, state_of}
+use Rattle.pd_cluster.specs.Clusters.{HoweverTheyEnd, state_of}
 use Rattle.pd_cluster.specs.Outcome.{IsHeeded}
 use Rattle.pd_cluster.specs.Replay.{SaysEnoughFor, State, TakeTurns, answers_from, answers_of, line_by, line_step, oracle_line, pop_of, request_of, start, state_after}
-use Rattle.pd_cluster.specs.Talks.{AreHeeded, GoOn, Talk, heeded_of, silence, talk_at, talks_from, talks_of}
+use Rattle.pd_cluster.specs.Talks.{GoOn, Talk, heeded_of, silence, talk_at, talks_from, talks_of}
 use Rattle.pd_cluster.specs.declared.replay.Replay.{Replay}
 use Rattle.pd_cluster.specs.declared.said.Said.{Said}
-use Rattle.pd_cluster.proofs.Benching.{goes_on, goes_same, length_from}
+use Rattle.pd_cluster.proofs.Benching.{goes_on, goes_same}
 use Rattle.pd_cluster.proofs.Heeding.{all_said, are_heeded, heard_all}
-use Rattle.pd_cluster.proofs.Histories.{all_asked, each_lawful, text_more}
+use Rattle.pd_cluster.proofs.Histories.{each_lawful, text_more}
 
 -- the first state of a script, where its drivers' benches go on from these to those
 abbrev pub first_of : List Seats → List Seats → Script → State

@@ -1,9 +1,9 @@
 -- What the drivers' answers in a lawful run tell that schedulers said is, driver by driver, what its bench said in it.
-use Rattle.std.proofs.Common.{refl, ◌≡◌, ℕ, zero, suc, ◌+◌, ◌<◌, ◌≤◌, true, false, List, [], ◌∷◌, ◌++◌, length, map, reverse, ap, sym, ◌∙◌, subst, append_assoc, append-nil, Option, Some, None, arith}
+use Rattle.std.proofs.Common.{refl, ◌≡◌, ℕ, zero, suc, ◌+◌, true, false, List, [], ◌∷◌, ◌++◌, length, map, reverse, ap, sym, ◌∙◌, subst, append_assoc, append-nil, Option, Some, None, arith}
 use Rattle.std.specs.Prelude.{All, Contains, flat_map}
 use Rattle.std.specs.List.{AllByRecursion}
 use Rattle.std.proofs.lemmas.Grind.{flat_map-append}
-use Rattle.std.proofs.lemmas.List.Elements.{All-contains, All-filter, All-head, All-tail, Contains-append_left, Contains-append_right, recursion_from_All}
+use Rattle.std.proofs.lemmas.List.Elements.{All-contains, All-filter, All-head, Contains-append_left, Contains-append_right, recursion_from_All}
 use Rattle.pd_types.specs.declared.oracle.Actor.TheVariants.{Driver}
 use Rattle.pd_types.specs.declared.request.Request.{Request}
 use Rattle.pd_script.specs.declared.script.Script.{Script}
@@ -26,7 +26,6 @@ use Rattle.pd_run.specs.Answers.{asked_besides}
 use Rattle.pd_run.specs.Heard.{AreHeard, HeardAll, no_seats}
 use Rattle.pd_run.specs.Runs.{DriverAnswersLines, DriverPart, DriversAnswer, IsLawfulJournal, Journal, Run}
 use Rattle.pd_run.specs.Turns.{DriverDid, DriverTurn, IsAsked, IsDriverTurn, IsReplied, driver_answer}
-use Rattle.pd_run.specs.declared.answer.DriverAnswer.{DriverAnswer}
 use Rattle.pd_run.specs.declared.answer.DriverSays.{DriverSays}
 use Rattle.pd_run.specs.declared.answer.DriverSays.TheVariants as drivers
 use Rattle.pd_run.specs.declared.line.DriverLine.{DriverLine}

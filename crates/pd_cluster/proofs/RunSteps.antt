@@ -1,5 +1,5 @@
 -- Each step that a lawful run prints was sent by an entry of one of its journals, and is safe there.
-use Rattle.std.proofs.Common.{refl, ◌≡◌, inl, inr, ℕ, zero, suc, ◌+◌, ◌<◌, ◌≤◌, Bool, true, cond, eqb, List, [], ◌∷◌, ◌++◌, map, reverse, ap, sym, ◌∙◌, subst, Option, Some, None, arith}
+use Rattle.std.proofs.Common.{refl, ◌≡◌, inl, inr, ℕ, zero, suc, ◌+◌, ◌<◌, ◌≤◌, Bool, cond, eqb, List, [], ◌∷◌, map, reverse, sym, ◌∙◌, subst, Some, None, arith}
 use Rattle.std.specs.Prelude.{All, Contains, flat_map}
 use Rattle.std.specs.List.{AllZip}
 use Rattle.std.proofs.lemmas.Bool.{eqb-true}
@@ -37,7 +37,7 @@ use Rattle.pd_run.specs.declared.line.StoreLine.{StoreLine}
 use Rattle.pd_run.specs.declared.line.StoreTask.{StoreTask}
 use Rattle.pd_run.specs.declared.line.StoreTask.TheVariants as asks
 use Rattle.pd_cluster.specs.RunLines.{AnswersScript, lines_of_drivers, lines_of_store, lines_of_stores}
-use Rattle.pd_cluster.specs.Sent.{DriverTellsSafely, HasSafeSteps, IsByJournal, IsSafelySent, IsToldSafely, StoreTellsSafely, TellsSafely}
+use Rattle.pd_cluster.specs.Sent.{DriverTellsSafely, HasSafeSteps, IsToldSafely, StoreTellsSafely, TellsSafely}
 use Rattle.pd_cluster.proofs.Lists.{at_first, behind, each_of, from_filter, from_flat, from_map, in_reverse, none_in, same_eqb, to_flat}
 use Rattle.pd_cluster.proofs.RunLines.{lines_go}
 use Rattle.pd_cluster.proofs.Sends.{IsOwn, later_sent, later_told, own_sent, own_told}

@@ -1,6 +1,6 @@
 -- Each step that a replay prints was sent by an entry of its journals, which are legal, and is safe there.
-use Rattle.std.proofs.Common.{refl, ◌≡◌, ℕ, zero, suc, ◌+◌, ◌<◌, ◌≤◌, ◌⊎◌, inl, inr, Bool, true, false, cond, eqb, List, [], ◌∷◌, ◌++◌, length, length-append, length-set, map, max, nat_eq, take, get_or, replicate, set, append_assoc, ap, sym, ◌∙◌, subst, Option, Some, None, arith}
-use Rattle.std.specs.Prelude.{All, Contains, Result, Ok, Err, option_map}
+use Rattle.std.proofs.Common.{refl, ◌≡◌, ℕ, zero, suc, ◌+◌, ◌<◌, ◌≤◌, ◌⊎◌, inl, inr, Bool, true, false, cond, eqb, List, [], ◌∷◌, ◌++◌, length, length-append, length-set, nat_eq, take, get_or, replicate, set, append_assoc, ap, sym, ◌∙◌, subst, Option, Some, None, arith}
+use Rattle.std.specs.Prelude.{Contains}
 use Rattle.std.specs.List.{AllByRecursion}
 use Rattle.std.specs.FinMap as map
 use Rattle.std.specs.Ordering.{nat_cmp}
@@ -20,35 +20,14 @@ use Rattle.pd_script.specs.Lawful.{IsLawful}
 use Rattle.pd_script.specs.declared.act.Act.{Act}
 use Rattle.pd_script.specs.declared.act.Act.TheVariants.{Ask, Pop}
 use Rattle.pd_script.specs.declared.act.Line.{Line}
-use Rattle.pd_ctl.specs.declared.command.Command.{Command}
-use Rattle.pd_ctl.specs.declared.command.Command.TheVariants as commands
-use Rattle.pd_ctl.specs.declared.fault.CtlFault.{CtlFault}
-use Rattle.sched_api.specs.declared.scheduler.Said.{Said as Heeded}
 use Rattle.tso_core.specs.declared.reply.Reply.{Reply as Answered}
 use Rattle.tso_core.specs.declared.reply.Reply.TheVariants as answered
-use Rattle.pd_state.specs.Adding.{Around, Planning, around_at, planning_of}
-use Rattle.pd_state.specs.Asking.{Hearing, hearing}
 use Rattle.pd_state.specs.BenchHeard.{asks_names, names_heard, turns_of}
 use Rattle.pd_state.specs.Calls.{most_calls, next_call}
-use Rattle.pd_state.specs.Checking.{Deed, deed_of, idle}
-use Rattle.pd_state.specs.Ctl.{ctl_of, resigns, resigns_by, words_done}
-use Rattle.pd_state.specs.Gates.{IsSafeThere}
-use Rattle.pd_state.specs.Heard.{heard_of}
-use Rattle.pd_state.specs.Legal.{IsLegal, IsLegalAfter, sents_by, term_in}
-use Rattle.pd_state.specs.Sends.{message}
-use Rattle.pd_state.specs.Reports.{command_told}
-use Rattle.pd_state.specs.Since.{since, since_by}
-use Rattle.pd_state.specs.State.{moment_of, part_after, part_of}
+use Rattle.pd_state.specs.Legal.{IsLegal, IsLegalAfter}
 use Rattle.pd_state.specs.declared.entry.Entry.{Entry}
-use Rattle.pd_state.specs.declared.heard.Heard.{Heard}
 use Rattle.pd_state.specs.declared.part.Part.{Part}
-use Rattle.pd_state.specs.declared.reply.Reply.{Reply}
-use Rattle.pd_state.specs.declared.reply.Reply.TheVariants as replies
-use Rattle.pd_state.specs.declared.sent.Sent.{Sent}
-use Rattle.pd_state.proofs.Ends.{Ends, ends_or}
 use Rattle.pd_state.proofs.Few.{waits_few}
-use Rattle.pd_state.proofs.Gates.{gated}
-use Rattle.tso_outcome.proofs.Above.{to_map}
 use Rattle.pd_cluster.specs.Answers.{Answer, driver_in}
 use Rattle.pd_cluster.specs.Metadata.{answer_to, answers_from as calls_from, with_call}
 use Rattle.pd_cluster.specs.Replay.{Kept, SaysEnough, SaysEnoughFor, State, TakeTurns, Turned, act_step, answers_from, asked_besides, asked_line, lead_at, line_step, moment_of as line_moment, names_at, oracle_line, answers_at, part_at, past_at, pop_line, published_term, request_of, said_at, served, state_after, waiting_at, with_besides, with_served}

@@ -1,7 +1,7 @@
 use Rattle.std.specs.Prelude.{string_bytes}
 use Rattle.pd_cluster.specs.Answers.{opening_cell}
 use Rattle.pd_cluster.specs.Replay.{State}
-use Rattle.std.proofs.Common.{◌≡◌, map, ◌+◌, List, ap, sym, subst, ◌∙◌, arith}
+use Rattle.std.proofs.Common.{◌≡◌, map, ◌+◌, List, ap, sym, subst, ◌∙◌}
 use Rattle.std.proofs.lemmas.List.Elements.{All-head, All-rest, All-same}
 use Rattle.std.specs.Vec.Iter.{into_iter_items}
 use Rattle.tso_model.specs.declared.view.Setup.{Setup}

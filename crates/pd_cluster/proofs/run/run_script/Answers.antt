@@ -1,4 +1,4 @@
-use Rattle.std.proofs.Common.{ℕ, List, map, refl, sym, subst}
+use Rattle.std.proofs.Common.{List, map, refl, sym, subst}
 use Rattle.std.proofs.lemmas.Simd.{map-map}
 use Rattle.pd_script.specs.declared.script.Mode.TheVariants.{Run as OnThreads}
 use Rattle.tso_board.specs.Boards.{setup_of as board_setup}

@@ -1,5 +1,5 @@
 use Rattle.pd_cluster.proofs.Endings.{ends}
-use Rattle.pd_cluster.proofs.Headline.{headline, heeded_headline, none_heeded, none_read, step_headline}
+use Rattle.pd_cluster.proofs.Headline.{headline, heeded_headline, step_headline}
 use Rattle.pd_cluster.proofs.Lawful.{safe_outcome}
 use Rattle.pd_cluster.proofs.top.pd_top.Goals as goal
 
