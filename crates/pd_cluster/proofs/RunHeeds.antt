@@ -151,16 +151,14 @@ parts_heed d n [] [] [] (old ∷ olds) (new ∷ news) numbers legal ans heard = 
     unled e (old ∷ olds) [] heard = absurd heard
     unled e (old ∷ olds) (new ∷ news) heard = (heard.0, unled (e + 1) olds news heard.1)
 parts_heed d n (l ∷ lines) (p ∷ parts) (j ∷ js) [] [] numbers legal ans heard =
-    let rise = first_is d n p.number (map (λ (p : DriverPart). p.number) parts) numbers in
-    (
+    let rise = first_is d n p.number (map (λ (p : DriverPart). p.number) parts) numbers in (
       sym (over_heeds d l p j no_seats no_seats rise.0 (legal j (0, omega arith, refl)) ans.0 heard.0),
       parts_heed (d + 1) rise.1.0 lines parts js [] [] rise.1.1 (λ k has. legal k (behind j k js has)) ans.1 heard.1,
     )
 parts_heed d n (l ∷ lines) (p ∷ parts) (j ∷ js) [] (new ∷ news) numbers legal ans heard = absurd heard
 parts_heed d n (l ∷ lines) (p ∷ parts) (j ∷ js) (old ∷ olds) [] numbers legal ans heard = absurd heard
 parts_heed d n (l ∷ lines) (p ∷ parts) (j ∷ js) (old ∷ olds) (new ∷ news) numbers legal ans heard =
-    let rise = first_is d n p.number (map (λ (p : DriverPart). p.number) parts) numbers in
-    (
+    let rise = first_is d n p.number (map (λ (p : DriverPart). p.number) parts) numbers in (
       over_heeds d l p j old new rise.0 (legal j (0, omega arith, refl)) ans.0 heard.0,
       parts_heed (d + 1) rise.1.0 lines parts js olds news rise.1.1 (λ k has. legal k (behind j k js has)) ans.1 heard.1,
     )

@@ -192,7 +192,7 @@ module _ (run : Run) (lawful : IsLawful run) where
 journal_of_driver : (script : Script) (run : Run) → AnswersScript script run → (d : ℕ) → 0 < d → d ≤ script.drivers → (j : Journal) × Contains run.journals j × (j.driver ≡ d)
 journal_of_driver script run answers d first last =
     let numbers : map (λ (j : Journal). j.driver) run.journals ≡ numbers_from 1 script.drivers =
-        same_numbers (lines_of_drivers script) run.drivers run.journals answers.answered.drivers_answer ∙ answers.answered.driver_numbers ∙ (λ i. numbers_from 1 (answers.setup i).drivers) in
+    same_numbers (lines_of_drivers script) run.drivers run.journals answers.answered.drivers_answer ∙ answers.answered.driver_numbers ∙ (λ i. numbers_from 1 (answers.setup i).drivers) in
     let has : Contains (map (λ (j : Journal). j.driver) run.journals) d = subst (λ (ns : List ℕ). Contains ns d) (sym numbers) (has_numbers 1 script.drivers d (omega (arith, first)) (omega (arith, last))) in
     let found = from_map (λ (j : Journal). j.driver) run.journals d has in
     (found.0, found.1, sym found.2)
