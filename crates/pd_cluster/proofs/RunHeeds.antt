@@ -1,5 +1,5 @@
 -- What the drivers' answers in a lawful run tell that schedulers said is, driver by driver, what its bench said in it.
-use Rattle.std.proofs.Common.{refl, ◌≡◌, ℕ, zero, suc, ◌+◌, true, false, List, [], ◌∷◌, ◌++◌, length, map, reverse, ap, sym, ◌∙◌, subst, append_assoc, append-nil, Option, Some, None, arith}
+use Rattle.std.proofs.Common.{refl, ◌≡◌, ℕ, zero, suc, ◌+◌, true, false, List, [], ◌∷◌, ◌++◌, length, map, reverse, ap, sym, ◌∙◌, subst, append-nil, Option, Some, None, arith}
 use Rattle.std.specs.Prelude.{All, Contains, flat_map}
 use Rattle.std.specs.List.{AllByRecursion}
 use Rattle.std.proofs.lemmas.Grind.{flat_map-append}
@@ -38,6 +38,7 @@ use Rattle.pd_cluster.specs.Talks.{Benches, heeded, heeded_by}
 use Rattle.pd_cluster.proofs.Heeding.{asked_end, none_at_all, reply_heeds}
 use Rattle.pd_cluster.proofs.Lists.{behind, each_of, in_reverse}
 use Rattle.pd_cluster.proofs.RunLines.{first_of, rest_of}
+use Rattle.pd_run.proofs.Hearing.{said_by_all}
 use Rattle.pd_cluster.proofs.Sending.{AreTurnless, IsTurnless, retire_turnless, term_turnless}
 
 -- what the bench said for an entry
@@ -65,13 +66,6 @@ legal_heed d (one ∷ past) e legal (suc k, low, same) = legal_heed d past e leg
 -- all entries of a journal
 journal_heeds : (j : Journal) → IsLegal j.driver (reverse j.entries) → All Heeds j.entries
 journal_heeds j legal = each_of Heeds j.entries (λ e has. legal_heed j.driver (reverse j.entries) e legal (in_reverse j.entries e has))
-
--- OVER A BENCH what it said grew by what it said for each entry
-heard_said : (entries : List Entry) (old new : Seats) → HeardAll entries old new → new.said ≡ old.said ++ flat_map said_for entries
-heard_said [] old new same = ap (λ (s : Seats). s.said) same ∙ sym (append-nil old.said)
-heard_said (e ∷ entries) old new heard =
-    let mid : Seats = heard.0 in
-    heard_said entries mid new heard.3 ∙ ap (λ (xs : List Heeded). xs ++ flat_map said_for entries) heard.2.said ∙ append_assoc old.said e.bench (flat_map said_for entries)
 
 -- A LINE tells of what the bench said for the entries that it made
 replied_heeds : (line : ℕ) (request : Request) (reply : Reply) (own : List Entry) → IsReplied line request reply own → All Heeds own → heeded reply ≡ flat_map said_for own
@@ -131,7 +125,7 @@ driver_heeds lines p j legal ans =
 -- what a driver's answers tell, where its own entries were made over this bench
 over_heeds : (d : ℕ) (lines : List DriverLine) (p : DriverPart) (j : Journal) (old new : Seats) → p.number ≡ d → IsLegal j.driver (reverse j.entries) → DriverAnswersLines lines p j → HeardAll (entries_of (Driver d) j.entries) old new → new.said ≡ old.said ++ heeded_in p.answers
 over_heeds d lines p j old new is legal ans heard =
-    heard_said (entries_of (Driver d) j.entries) old new heard ∙ ap (λ (n : ℕ). old.said ++ flat_map said_for (entries_of (Driver n) j.entries)) (sym is) ∙ ap (λ (xs : List Heeded). old.said ++ xs) (sym (driver_heeds lines p j legal ans))
+    said_by_all (entries_of (Driver d) j.entries) old new heard ∙ ap (λ (n : ℕ). old.said ++ flat_map said_for (entries_of (Driver n) j.entries)) (sym is) ∙ ap (λ (xs : List Heeded). old.said ++ xs) (sym (driver_heeds lines p j legal ans))
 
 -- a number in front of others that rise
 first_is : (d n p : ℕ) (ps : List ℕ) → p ∷ ps ≡ numbers_from d n → (p ≡ d) × ((m : ℕ) × (ps ≡ numbers_from (d + 1) m))

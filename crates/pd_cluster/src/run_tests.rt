@@ -513,8 +513,8 @@ pub fn expect_lawful<R: Threads + Wait + Sync + AllocGlobal + Abort, G: Gate + S
 }
 
 #[test]
-fn runs_of_two_drivers_in_any_order_are_lawful(rt: HostRuntime) -> Result<(), Fail> {
-    for _ in 0..300 {
+fn a_thousand_runs_of_two_drivers_are_lawful(rt: HostRuntime) -> Result<(), Fail> {
+    for _ in 0..1000 {
         expect_lawful(&rt, TWO_DRIVERS, &OpenGate)?;
     }
     Ok(())

@@ -30,7 +30,7 @@ module _ {N B : Type 0} (seats : B → Seats) (line : ℕ) (ask : DriverAsk) (sa
     did = (asked, subst (λ (r : Option Request). IsAsked line r (m.entry ∷ [])) (sym besides) (reply, replied seats line request reply old new m));
     list = ap (λ s. s.list) m.gained;
     drove = (view_of new.driver, did, refl);
-    heard = (seats_of seats new.bench, m.tables, m.over, refl);
+    heard = (seats_of seats new.bench, m.over, refl);
   }
 
   -- the cluster heard nothing

@@ -17,3 +17,4 @@ pub mod Judging
 pub mod Starting
 pub mod Outcome
 pub mod Readying
+pub mod Hearing

@@ -44,7 +44,7 @@ driver_more lines answers entries h line says own did =
 
 pub heard_more : (es fs : List Entry) (one two three : Seats) → HeardAll es one two → HeardAll fs two three → HeardAll (es ++ fs) one three
 heard_more [] fs one two three h more = subst (λ s. HeardAll fs s three) h more
-heard_more (e ∷ es) fs one two three h more = (h.0, h.1, h.2, heard_more es fs h.0 two three h.3 more)
+heard_more (e ∷ es) fs one two three h more = (h.0, h.1, heard_more es fs h.0 two three h.2 more)
 
 pub drove_more : (v u w : View) (xs ys : List OracleAnswer) → Drove v xs u → Drove u ys w → Drove v (xs ++ ys) w
 drove_more v u w [] ys h more = subst (λ x. Drove x ys w) (sym h) more

@@ -2,9 +2,9 @@
 use Rattle.std.specs.Prelude.{◌≡◌, ℕ, ◌+◌, List, [], ◌∷◌, Option, Some, None}
 use Rattle.pd_types.specs.declared.oracle.Actor.TheVariants.{Driver}
 use Rattle.sched_api.specs.Benches.{Seats}
-use Rattle.pd_state.specs.BenchHeard.{OverBench}
+use Rattle.pd_state.specs.BenchHeard.{names_left}
 use Rattle.pd_state.specs.declared.entry.Entry.{Entry}
-use Rattle.pd_state.specs.declared.part.Part.{Part}
+use Rattle.pd_shared.specs.Benches.{IsOver, removed_name}
 use Rattle.pd_shared.specs.Shares.{entries_of}
 
 -- a bench without schedulers, which says nothing
@@ -19,7 +19,12 @@ seats_of seats (Some bench) = seats bench
 -- these entries were made over a bench, one after the other: what it said grew by what each heard of it, and its names stay but for those that were taken out
 abbrev pub HeardAll : List Entry → Seats → Seats → Type 0
 HeardAll [] old new = new ≡ old
-HeardAll (entry ∷ entries) old new = (mid : Seats) × (tables : Option Part) × OverBench tables entry old mid × HeardAll entries mid new
+HeardAll (entry ∷ entries) old new = (mid : Seats) × IsOver entry old mid × HeardAll entries mid new
+
+-- of a bench's names, those that are left behind these entries: each that an entry removed is gone, the first of that name
+abbrev pub names_behind : List Entry → List (List ℕ) → List (List ℕ)
+names_behind [] names = names
+names_behind (entry ∷ entries) names = names_behind entries (names_left (removed_name entry) names)
 
 -- The benches from that of this driver on, with the journals from this driver's on: over each bench its driver's own entries were made, a driver without a bench
 -- made its own over one without schedulers, and a bench without a driver stays

@@ -13,10 +13,9 @@ use Rattle.tso_driver.specs.Drivers.{IsDriverOf, view_of}
 use Rattle.tso_outcome.specs.Drives.{Drove}
 use Rattle.pd_types.specs.declared.request.Request.{Request}
 use Rattle.sched_api.specs.Benches.{Seats}
-use Rattle.pd_state.specs.BenchHeard.{OverBench}
 use Rattle.pd_state.specs.declared.entry.Entry.{Entry}
-use Rattle.pd_state.specs.declared.part.Part.{Part}
 use Rattle.pd_state.specs.declared.reply.Reply.{Reply}
+use Rattle.pd_shared.specs.Benches.{IsOver}
 use Rattle.pd_shared.specs.Kept.{IsEntryOf}
 use Rattle.pd_shared.specs.Shares.{ShareValue, SharedValue, gains}
 use Rattle.pd_run.specs.Answers.{by_oracle, oracle_answers, taken}
@@ -47,8 +46,7 @@ pub record Made {B : Type 0} (seats : B → Seats) (line : ℕ) (request : Reque
   pub entry : Entry
   pub entry_is : IsEntryOf entry old.actor line request reply
   pub gained : new ≡ gains entry old
-  pub tables : Option Part
-  pub over : OverBench tables entry (seats_of seats bench_old) (seats_of seats bench_new)
+  pub over : IsOver entry (seats_of seats bench_old) (seats_of seats bench_new)
 
 -- a driver of this board with a share of this cluster
 pub record IsAtWork {N B : Type 0} (board : Board) (cluster : SharedValue) (m : Means N B) : Type 0 where

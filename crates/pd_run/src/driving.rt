@@ -2,8 +2,6 @@
 ghost use Rattle.std.specs.Prelude.{◌≡◌, [], false, IfOk, OnOk, Option};
 ghost use Rattle.std.specs.Option.{is_some};
 ghost use Rattle.pd_state.specs.declared.entry.Entry.{Entry};
-ghost use Rattle.pd_state.specs.declared.part.Part.{Part};
-ghost use Rattle.pd_state.specs.BenchHeard.{OverBench};
 ghost use Rattle.pd_state.specs.declared.reply.Reply.{Reply};
 ghost use Rattle.pd_shared.specs.Kept.{IsEntryOf};
 ghost use Rattle.pd_shared.specs.Shares.{gains};

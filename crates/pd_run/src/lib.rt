@@ -5,6 +5,7 @@ mod answer;
 mod begin;
 mod driving;
 mod end;
+mod laws;
 mod line;
 mod pipe;
 mod runner;
@@ -16,5 +17,6 @@ mod tests;
 pub use answer::{
     DriverAnswer, DriverAnswers, DriverSays, StoreAnswer, StoreAnswers, StoreSays, asked_besides,
 };
+pub use laws::what_entries_hear_of_a_bench;
 pub use line::{DriverLine, DriverTask, StoreLine, StoreLines, StoreTask, Tasks};
 pub use runner::{Left, run};

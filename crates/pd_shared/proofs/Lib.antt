@@ -1,4 +1,5 @@
 mod Pushing
+mod Removing
 mod Keeping
 mod Sharing
 mod Two

@@ -9,11 +9,10 @@ use Rattle.meta_store.specs.declared.record.MetaAnswer.{MetaAnswer}
 use Rattle.meta_store.specs.Seats.{SeatValue}
 use Rattle.pd_state.specs.declared.entry.Entry.{Entry}
 use Rattle.pd_state.specs.declared.reply.Reply.{Reply}
-use Rattle.pd_state.specs.BenchHeard.{OverBench}
 use Rattle.pd_state.specs.Clusters.{ClusterValue, Replays}
 use Rattle.pd_state.specs.Legal.{IsLegal}
-use Rattle.pd_state.specs.State.{part_after}
 use Rattle.sched_api.specs.Benches.{Seats}
+use Rattle.pd_shared.specs.Benches.{IsOver}
 use Rattle.pd_shared.specs.Names.{StreamName}
 use Rattle.pd_shared.specs.Outlets.{AreOutletsOf, IsServed, OutletValue}
 
@@ -61,4 +60,4 @@ pub record Appended (old new : List Entry) (bench_old bench_new : Seats) (actor 
   pub entry : Entry
   pub entry_is : IsEntryOf entry actor line request reply
   pub entries_are : new ≡ old ++ entry ∷ []
-  pub over : OverBench (part_after (reverse old)) entry bench_old bench_new
+  pub over : IsOver entry bench_old bench_new

@@ -1,14 +1,13 @@
 -- What contracts see of a shared cluster and of its shares.
-use Rattle.std.specs.Prelude.{◌≡◌, ◌++◌, ◌∷◌, [], ◌==◌, ℕ, Bool, false, List, All, Contains, filter, map, Option, None, if◌then◌else◌}
+use Rattle.std.specs.Prelude.{◌≡◌, ◌++◌, ◌∷◌, [], ◌==◌, ℕ, Bool, false, List, All, Contains, filter, map, None, if◌then◌else◌}
 use Rattle.pd_turn.specs.Turns.{TicketValue, TurnValue, ticket_value}
 use Rattle.pd_types.specs.declared.oracle.Actor.{Actor}
 use Rattle.pd_types.specs.declared.oracle.Actor.TheVariants.{Driver, Client, Store}
 use Rattle.pd_types.specs.declared.request.Request.{Request}
 use Rattle.pd_state.specs.declared.entry.Entry.{Entry}
 use Rattle.pd_state.specs.declared.reply.Reply.{Reply}
-use Rattle.pd_state.specs.declared.part.Part.{Part}
-use Rattle.pd_state.specs.BenchHeard.{OverBench}
 use Rattle.sched_api.specs.Benches.{Seats}
+use Rattle.pd_shared.specs.Benches.{IsOver}
 use Rattle.pd_shared.specs.Kept.{IsEntryOf, number_of}
 
 -- a shared cluster: the turn by which it is reached, and its driver
@@ -46,14 +45,13 @@ new_share cluster actor = share_of cluster actor []
 abbrev pub gains : Entry → ShareValue → ShareValue
 gains entry share = share_of share.cluster share.actor (share.list ++ entry ∷ [])
 
--- a call by the share: its list gained just one entry, of its actor and of this line and request, with this reply. Over the tables that the cluster had, the
--- bench that was lent for the call heard just what the entry tells
+-- a call by the share: its list gained just one entry, of its actor and of this line and request, with this reply, which was made over
+-- the bench that was lent for the call
 pub record Called (old new : ShareValue) (bench_old bench_new : Seats) (line : ℕ) (request : Request) (reply : Reply) : Type 0 where
   pub entry : Entry
   pub entry_is : IsEntryOf entry old.actor line request reply
   pub gained : new ≡ gains entry old
-  pub tables : Option Part
-  pub over : OverBench tables entry bench_old bench_new
+  pub over : IsOver entry bench_old bench_new
 
 -- shares of this cluster, and one of each actor
 pub record AreSharesOf (cluster : SharedValue) (shares : List ShareValue) : Type 0 where

@@ -10,7 +10,7 @@ mod shared;
 #[cfg(test)]
 mod tests;
 
-pub use laws::what_is_pushed_was_sent;
+pub use laws::{what_is_pushed_was_sent, what_was_removed};
 pub use locked::Closed;
 pub use name::ClusterName;
 pub use outlet::{Givers, Outlet};

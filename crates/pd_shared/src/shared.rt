@@ -1,10 +1,9 @@
 // A cluster that actors share, each by its share.
-ghost use Rattle.std.specs.Prelude.{◌≡◌, ◌++◌, ◌∷◌, [], ℕ, All, Contains, map, Option, None, false, IfOk, OnErr};
+ghost use Rattle.std.specs.Prelude.{◌≡◌, ◌++◌, ◌∷◌, [], ℕ, All, Contains, map, None, false, IfOk, OnErr};
 ghost use Rattle.pd_turn.specs.Turns.{AreApart, new_ticket, ticket_value};
 ghost use Rattle.meta_store.specs.Seats.{new_seat};
 ghost use Rattle.pd_state.specs.declared.entry.Entry.{Entry};
-ghost use Rattle.pd_state.specs.declared.part.Part.{Part};
-ghost use Rattle.pd_state.specs.BenchHeard.{OverBench};
+ghost use Rattle.pd_shared.specs.Benches.{IsOver};
 ghost use Rattle.pd_shared.specs.Kept.{IsEntryOf, IsKept};
 ghost use Rattle.pd_shared.specs.Outlets.{AreOutletsOf, OutletValue};
 ghost use Rattle.pd_shared.specs.Shares.{AreSharesOf, Called, IsInJournal, IsOpen, IsOwn, actor_of, actors_of, new_share, share_by, ticket_by};
@@ -179,7 +178,7 @@ fn call_by<N: ClusterName, R: Wait, B: Seated>(
     requires none { ticket.old.taken ≡ None }
     ensures ok { IfOk result (λ reply. (entry : Entry) × IsEntryOf entry (actor_of driver ticket.old.number) line request reply
         × (ticket.new ≡ ticket_value ticket.old.turn ticket.old.number (ticket.old.list ++ entry ∷ []) None)
-        × (tables : Option Part) × OverBench tables entry (B.seats bench.old) (B.seats bench.new)) }
+        × IsOver entry (B.seats bench.old) (B.seats bench.new)) }
     ensures err { OnErr result (ticket.new ≡ ticket.old) }
 {
     let actor = actor_of(driver, ticket.number());

@@ -1,8 +1,7 @@
-use Rattle.std.proofs.Common.{[], ◌∷◌, ◌++◌, ap, ◌∙◌, reverse, sym, subst}
+use Rattle.std.proofs.Common.{[], ◌∷◌, ◌++◌, ap, ◌∙◌, sym, subst}
 use Rattle.std.specs.Prelude.{None}
 use Rattle.pd_turn.specs.Turns.{made_by, ticket_value}
 use Rattle.pd_types.specs.declared.oracle.Actor.{Actor}
-use Rattle.pd_state.specs.State.{part_after}
 use Rattle.pd_shared.specs.Kept.{IsEntryOf, number_of, tale_of}
 use Rattle.pd_shared.specs.Shares.{actor_of}
 use Rattle.pd_shared.proofs.Keeping.{tale_more}
@@ -29,6 +28,5 @@ returns-in-Ok-clause-ok g c =
       e,
       subst (λ (a : Actor). IsEntryOf e a c.args.line c.args.request c.in-Ok.reply) actor served.entry_is,
       c.give.ensures.ticket (e ∷ []) (tale_of before, ap (λ t. t.taken) taken, tale_more before c.serve-locked.result.0.cluster.entries e served.entries_are ∙ ap (λ n. tale_of before ++ made_by n (e ∷ [])) number) ∙ (λ i. ticket_value (sym c.requires.turn i) (ap (λ t. t.number) taken i) (ap (λ t. t.list) taken i ++ e ∷ []) None),
-      part_after (reverse before),
       served.over,
     )

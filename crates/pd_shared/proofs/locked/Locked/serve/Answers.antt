@@ -1,7 +1,9 @@
-use Rattle.std.proofs.Common.{sym, subst}
+use Rattle.std.proofs.Common.{◌++◌, ◌∷◌, [], ◌∙◌, ap, reverse, sym, subst}
 use Rattle.std.specs.List.{AllZip}
+use Rattle.pd_shared.specs.Kept.{LockedValue}
 use Rattle.pd_shared.specs.Outlets.{TookUp}
 use Rattle.pd_shared.proofs.Keeping.{kept_more}
+use Rattle.pd_shared.proofs.Removing.{over_entry}
 use Rattle.pd_shared.proofs.locked.Locked.serve.Goals as goal
 
 pub invariant_of-locked : goal.invariant_of-locked
@@ -16,3 +18,13 @@ invariant_of-locked g c =
           (subst (λ l. AllZip (TookUp l) i.givers.items c.push_all.new.givers.items) sends c.push_all.ensures.took),
       sym served.lives,
     )
+
+pub returns-in-Ok-clause-ok : goal.returns-in-Ok-clause-ok
+returns-in-Ok-clause-ok g c =
+    let i = c.self.inside in
+    let served = c.in-Ok.ensures.ok in record {
+      entry = served.entry;
+      entry_is = record { actor_is = served.actor_is; line_is = served.line_is; request_is = served.request_is; reply_is = served.reply_is };
+      entries_are = served.appended ∙ ap (λ (v : LockedValue). v.cluster.entries ++ served.entry ∷ []) c.self.view_is;
+      over = over_entry i.cluster.driver (reverse i.cluster.entries) served.entry _ _ served.legal served.bench;
+    }
