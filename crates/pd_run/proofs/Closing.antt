@@ -7,7 +7,7 @@ use Rattle.std.proofs.lemmas.List.Elements.{All-cons, All-contains, All-contains
 use Rattle.pd_turn.specs.Turns.{Among, AreApart, TurnValue}
 use Rattle.pd_types.specs.declared.oracle.Actor.{Actor}
 use Rattle.pd_types.specs.declared.oracle.Actor.TheVariants.{Driver, Store}
-use Rattle.step_stream.specs.Streams.{EndValue}
+use Rattle.step_stream.specs.Streams.{TakerValue}
 use Rattle.meta_store.specs.Seats.{SeatValue}
 use Rattle.pd_state.specs.Clusters.{ClusterValue}
 use Rattle.pd_state.specs.declared.entry.Entry.{Entry}
@@ -37,7 +37,7 @@ pub driver_actor : (driver : ℕ) → actor_of driver 0 ≡ Driver driver
 driver_actor driver = ap (λ b. cond b (Driver driver) (Store 0)) (eq-eqb 0 0 refl)
 
 -- the stream whose end popped has one of these names
-abbrev NamedEnd : List StreamName → SharedValue → ℕ × EndValue → Type 0
+abbrev NamedEnd : List StreamName → SharedValue → ℕ × TakerValue → Type 0
 NamedEnd names cluster end = Contains names (stream_name cluster.driver end.0 end.1.stream)
 
 module _ {N : Type 0} (names : List StreamName) (cluster : SharedValue) where
@@ -114,7 +114,7 @@ module _ {N : Type 0} (names : List StreamName) (cluster : SharedValue) where
   pub has_ports : (ws : List (StoreWork N)) → All (HasPortTo names cluster) ws → All (λ (w : StoreWork N). 0 < length w.ports.items) ws
   has_ports ws has = All-weaker (HasPortTo names cluster) (λ (w : StoreWork N). 0 < length w.ports.items) (λ w h. let long = ap length h.ports in omega (arith, long)) ws has
 
-  module _ {B : Type 0} (work : DriverWork N B) (olds news : List (StoreWork N)) (shares : List ShareValue) (takers : List (ℕ × EndValue)) (ends : EndsOf work.means.share olds news shares takers) (has : All (HasPortTo names cluster) olds) where
+  module _ {B : Type 0} (work : DriverWork N B) (olds news : List (StoreWork N)) (shares : List ShareValue) (takers : List (ℕ × TakerValue)) (ends : EndsOf work.means.share olds news shares takers) (has : All (HasPortTo names cluster) olds) where
     abbrev ids : List ℕ
     ids = map (λ (w : StoreWork N). w.store) olds
 

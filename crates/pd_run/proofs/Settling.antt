@@ -8,7 +8,7 @@ use Rattle.pd_turn.specs.Turns.{AreApart}
 use Rattle.std.proofs.lemmas.List.{append-nil, length-map}
 use Rattle.std.proofs.lemmas.List.Elements.{All-push, Contains-get_or}
 use Rattle.std.proofs.lemmas.List.Sorted.{Contains-permutation, IsPermutation-sym}
-use Rattle.step_stream.specs.Streams.{EndValue}
+use Rattle.step_stream.specs.Streams.{TakerValue}
 use Rattle.pd_shared.specs.Names.{StreamName, stream_name, streams_of}
 use Rattle.pd_shared.specs.Outlets.{AreOutletsOf, OutletValue, named, outlet_of}
 use Rattle.pd_run.specs.Ends.{HasOutlet, IsPlaceOf, IsSettled}
@@ -74,10 +74,10 @@ has_outlet streams driver os store stream are held =
     let found = named_outlet driver store stream os there.0 some_outlet name low there.2 in
     (get_or os there.0 some_outlet, Contains-get_or os there.0 some_outlet low, found.0, found.1)
 
-pub settled_more : (outlets : List OutletValue) (all left rest : List (ℕ × EndValue)) (end : ℕ × EndValue) → ((done : List (ℕ × EndValue)) × (done ++ left ≡ all) × All (IsSettled outlets) done) → left ≡ end ∷ rest → IsSettled outlets end
-    → (done : List (ℕ × EndValue)) × (done ++ rest ≡ all) × All (IsSettled outlets) done
+pub settled_more : (outlets : List OutletValue) (all left rest : List (ℕ × TakerValue)) (end : ℕ × TakerValue) → ((done : List (ℕ × TakerValue)) × (done ++ left ≡ all) × All (IsSettled outlets) done) → left ≡ end ∷ rest → IsSettled outlets end
+    → (done : List (ℕ × TakerValue)) × (done ++ rest ≡ all) × All (IsSettled outlets) done
 settled_more outlets all left rest end h is one =
     (h.0 ++ end ∷ [], append_assoc h.0 (end ∷ []) rest ∙ ap (λ l. h.0 ++ l) (sym is) ∙ h.1, All-push (IsSettled outlets) h.0 end h.2 one)
 
-pub settled_all : (outlets : List OutletValue) (all left : List (ℕ × EndValue)) → ((done : List (ℕ × EndValue)) × (done ++ left ≡ all) × All (IsSettled outlets) done) → left ≡ [] → All (IsSettled outlets) all
+pub settled_all : (outlets : List OutletValue) (all left : List (ℕ × TakerValue)) → ((done : List (ℕ × TakerValue)) × (done ++ left ≡ all) × All (IsSettled outlets) done) → left ≡ [] → All (IsSettled outlets) all
 settled_all outlets all left h none = subst (All (IsSettled outlets)) (sym (append-nil h.0) ∙ ap (λ l. h.0 ++ l) (sym none) ∙ h.1) h.2

@@ -2,7 +2,7 @@
 use Rattle.std.proofs.Common.{◌≡◌, ℕ, ◌<◌, List, [], ◌∷◌, ◌++◌, get_or, length, map, refl, sym, ap, ◌∙◌, arith, subst, append_assoc}
 use Rattle.std.specs.Prelude.{remove, zip}
 use Rattle.std.proofs.lemmas.List.{append-nil, map-append}
-use Rattle.step_stream.specs.Streams.{EndValue}
+use Rattle.step_stream.specs.Streams.{TakerValue}
 use Rattle.pd_shared.specs.Shares.{ShareValue}
 use Rattle.pd_run.specs.Ends.{EndsOf, LostPort, LostPorts}
 use Rattle.pd_run.specs.declared.storing.Port.{Port}
@@ -10,7 +10,7 @@ use Rattle.pd_run.specs.declared.storing.StoreWork.{StoreWork}
 
 module _ {N : Type 0} where
   -- so far the first stores lost their first ports
-  pub record Taken (first : List ShareValue) (olds rest news : List (StoreWork N)) (shares : List ShareValue) (takers : List (ℕ × EndValue)) : Type 0 where
+  pub record Taken (first : List ShareValue) (olds rest news : List (StoreWork N)) (shares : List ShareValue) (takers : List (ℕ × TakerValue)) : Type 0 where
     pub ports : List (Port N)
     pub done : List (StoreWork N)
     pub stores_are : done ++ rest ≡ olds
@@ -35,7 +35,7 @@ module _ {N : Type 0} where
   zip_more (q ∷ ports) (o ∷ olds) [] p old h = absurd h
   zip_more (q ∷ ports) (o ∷ olds) (n ∷ news) p old h = ap (λ l. (o.store, q.taker) ∷ l) (zip_more ports olds news p old h.1)
 
-  pub taken_none : (first shares : List ShareValue) (olds : List (StoreWork N)) (news : List (StoreWork N)) (takers : List (ℕ × EndValue)) → shares ≡ first → news ≡ [] → takers ≡ [] → Taken first olds olds news shares takers
+  pub taken_none : (first shares : List ShareValue) (olds : List (StoreWork N)) (news : List (StoreWork N)) (takers : List (ℕ × TakerValue)) → shares ≡ first → news ≡ [] → takers ≡ [] → Taken first olds olds news shares takers
   taken_none first shares olds news takers same none nothing = record {
     ports = [];
     done = [];
@@ -45,7 +45,7 @@ module _ {N : Type 0} where
     takers_are = nothing;
   }
 
-  pub taken_more : (first shares more : List ShareValue) (olds rest fewer news works : List (StoreWork N)) (takers others : List (ℕ × EndValue)) (p : Port N) (old new : StoreWork N) → Taken first olds rest news shares takers → rest ≡ old ∷ fewer → LostPort p old new
+  pub taken_more : (first shares more : List ShareValue) (olds rest fewer news works : List (StoreWork N)) (takers others : List (ℕ × TakerValue)) (p : Port N) (old new : StoreWork N) → Taken first olds rest news shares takers → rest ≡ old ∷ fewer → LostPort p old new
       → more ≡ shares ++ p.share ∷ [] → others ≡ takers ++ (old.store, p.taker) ∷ [] → works ≡ news ++ new ∷ [] → Taken first olds fewer works more others
   taken_more first shares more olds rest fewer news works takers others p old new h is lost share taker grown = record {
     ports = h.ports ++ p ∷ [];
@@ -56,7 +56,7 @@ module _ {N : Type 0} where
     takers_are = taker ∙ ap (λ l. l ++ (old.store, p.taker) ∷ []) h.takers_are ∙ sym (zip_more h.ports h.done news p old h.lost);
   }
 
-  pub taken_all : (share : ShareValue) (shares : List ShareValue) (olds news : List (StoreWork N)) (takers : List (ℕ × EndValue)) → Taken (share ∷ []) olds [] news shares takers → EndsOf share olds news shares takers
+  pub taken_all : (share : ShareValue) (shares : List ShareValue) (olds news : List (StoreWork N)) (takers : List (ℕ × TakerValue)) → Taken (share ∷ []) olds [] news shares takers → EndsOf share olds news shares takers
   taken_all share shares olds news takers h =
       let all : h.done ≡ olds = sym (append-nil h.done) ∙ h.stores_are in record {
         ports = h.ports;

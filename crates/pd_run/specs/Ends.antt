@@ -12,7 +12,7 @@ use Rattle.pd_shared.specs.Kept.{IsKept, answers_in}
 use Rattle.pd_shared.specs.Names.{StreamName, stream_name}
 use Rattle.pd_shared.specs.Outlets.{OutletValue}
 use Rattle.pd_shared.specs.Shares.{IsInJournal, ShareValue, SharedValue, actor_of, actors_of, entries_of}
-use Rattle.step_stream.specs.Streams.{EndValue}
+use Rattle.step_stream.specs.Streams.{TakerValue}
 use Rattle.pd_run.specs.Crews.{AreNamed}
 use Rattle.pd_run.specs.Runs.{ArePopped, DriverPart, StorePart}
 use Rattle.pd_run.specs.Works.{ArePorts, IsPort, made_at, popped_at, streams_at}
@@ -35,7 +35,7 @@ LostPorts (p ∷ ports) (old ∷ olds) (new ∷ news) = LostPort p old new × Lo
 LostPorts _ _ _ = ⊥
 
 -- what was taken of the stores for one cluster: its shares, the driver's first, and with each store the end of its stream that popped
-pub record EndsOf {N : Type 0} (share : ShareValue) (olds news : List (StoreWork N)) (shares : List ShareValue) (takers : List (ℕ × EndValue)) : Type 0 where
+pub record EndsOf {N : Type 0} (share : ShareValue) (olds news : List (StoreWork N)) (shares : List ShareValue) (takers : List (ℕ × TakerValue)) : Type 0 where
   pub ports : List (Port N)
   pub lost : LostPorts ports olds news
   pub shares_are : shares ≡ share ∷ map (λ (p : Port N). p.share) ports
@@ -51,12 +51,12 @@ pub record IsPlaceOf (outlets : List OutletValue) (store place : ℕ) : Type 0 w
   pub there : (any : OutletValue) → (get_or outlets place any).store ≡ store
 
 -- what a store popped stands, in order, at the front of what was pushed into the outlet to it
-abbrev pub IsSettled : List OutletValue → ℕ × EndValue → Type 0
+abbrev pub IsSettled : List OutletValue → ℕ × TakerValue → Type 0
 IsSettled outlets taker = (outlet : OutletValue) × Contains outlets outlet × (outlet.store ≡ taker.0) × IsPrefix taker.1.list outlet.pushed
 
 -- a shared cluster was closed with these shares, and its streams were settled with these ends: its seat and some outlets are kept with it, each share's list is its
 -- actor's entries in the journal, which are all, and what each store popped stands at the front of what was pushed
-pub record IsClosing (meta : TurnValue) (streams : List StreamName) (shared : SharedValue) (shares : List ShareValue) (takers : List (ℕ × EndValue)) (cluster : ClusterValue) (seat : SeatValue) : Type 0 where
+pub record IsClosing (meta : TurnValue) (streams : List StreamName) (shared : SharedValue) (shares : List ShareValue) (takers : List (ℕ × TakerValue)) (cluster : ClusterValue) (seat : SeatValue) : Type 0 where
   pub outlets : List OutletValue
   pub driver : cluster.driver ≡ shared.driver
   pub alive : cluster.dead ≡ false

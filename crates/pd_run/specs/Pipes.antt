@@ -1,7 +1,7 @@
 -- The streams of a run, from each driver's cluster to each store that acts, and the ports that stores get.
 use Rattle.std.specs.Prelude.{◌≡◌, ℕ, ◌+◌, List, [], ◌∷◌, ◌++◌, false, All, map}
 use Rattle.std.specs.Arc.{arc_value}
-use Rattle.step_stream.specs.Streams.{end_value}
+use Rattle.step_stream.specs.Streams.{end_value, taker_value}
 use Rattle.pd_shared.specs.Names.{StreamName, stream_name}
 use Rattle.pd_shared.specs.Outlets.{OutletValue, outlet_of}
 use Rattle.pd_shared.specs.Shares.{SharedValue, actor_of, new_share}
@@ -14,7 +14,7 @@ use Rattle.pd_run.specs.declared.storing.StoreWork.{StoreWork}
 -- a stream with both its ends, by which nothing was pushed or popped
 pub record IsNewPipe (p : Pipe) : Type 0 where
   pub giver : p.giver ≡ end_value (arc_value p.stream) []
-  pub taker : p.taker ≡ end_value (arc_value p.stream) []
+  pub taker : p.taker ≡ taker_value (arc_value p.stream) [] []
 
 -- a new stream to each of these stores, in their order
 pub record ArePipesTo (stores : List ℕ) (pipes : List Pipe) : Type 0 where
@@ -41,7 +41,7 @@ end_by p = record { stream = p.stream; taker = p.taker }
 -- a new port of a pipe's store to this cluster
 pub record OpensPort {N : Type 0} (cluster : SharedValue) (pipe : Pipe) (p : Port N) : Type 0 where
   pub share_is : p.share ≡ new_share cluster (actor_of cluster.driver pipe.store)
-  pub taker_is : p.taker ≡ end_value (arc_value pipe.stream) []
+  pub taker_is : p.taker ≡ taker_value (arc_value pipe.stream) [] []
   pub stream_is : arc_value p.stream ≡ arc_value pipe.stream
 
 -- a worker of a store with these lines, which has no port yet

@@ -3,7 +3,7 @@ ghost use Rattle.std.specs.Prelude.{◌≡◌, ◌≢◌, ◌<◌, ◌∷◌, �
 ghost use Rattle.std.specs.List.{AllZip};
 ghost use Rattle.pd_turn.specs.Turns.{AreApart};
 ghost use Rattle.tso_driver.specs.Drivers.{seat_of};
-ghost use Rattle.step_stream.specs.Streams.{EndValue};
+ghost use Rattle.step_stream.specs.Streams.{TakerValue};
 ghost use Rattle.pd_shared.specs.Names.{stream_name};
 ghost use Rattle.pd_shared.specs.Outlets.{OutletValue};
 ghost use Rattle.pd_shared.specs.Shares.{AreSharesOf};
@@ -93,7 +93,7 @@ fn close<N: ClusterName, R: Wait>(
     ends: Ends<N>,
 ) -> Result<Closing, NoMemory>
     requires shares { AreSharesOf cluster ends.shares.items }
-    requires named { All (λ (end : ℕ × EndValue). Contains N.streams (stream_name cluster.driver end.0 end.1.stream)) ends.takers.items }
+    requires named { All (λ (end : ℕ × TakerValue). Contains N.streams (stream_name cluster.driver end.0 end.1.stream)) ends.takers.items }
     ensures closing { IfOk result (λ closing. IsClosing N.meta N.streams cluster ends.shares.items ends.takers.items closing.cluster closing.seat) }
 {
     let Ends { shares, takers } = ends;

@@ -2,10 +2,12 @@
 //! was pushed, each step once.
 #![tactic(auto)]
 
+mod laws;
 mod rule;
 mod stream;
 #[cfg(test)]
 mod tests;
 
+pub use laws::who_meets_a_note_knows_no_less;
 pub use rule::View;
-pub use stream::{Giver, PLACES, Stream, Taker};
+pub use stream::{Giver, Note, PLACES, Stream, Taker};

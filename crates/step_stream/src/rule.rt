@@ -13,6 +13,8 @@ pub struct View {
     pub pushed: LinkedList<StepMsg>,
     /// What was popped, where it is the end that pops.
     pub popped: LinkedList<StepMsg>,
+    /// What it knows to have been pushed, by the notes that it met.
+    pub known: LinkedList<StepMsg>,
 }
 
 /// What was pushed is what was popped and then what the queue holds.
@@ -24,7 +26,7 @@ impl Protocol<StepMsg, View> for InOrder {
 
     ghost holds = { IsInOrder };
 
-    ghost first = { view_of true true [] [] };
+    ghost first = { view_of true true [] [] [] };
 }
 
 /// One end pushes, the other pops.
@@ -34,18 +36,39 @@ impl Split<View> for Ends {
     ghost use Rattle.std.specs.Prelude.{true, false, []};
     ghost use Rattle.step_stream.specs.Streams.{view_of};
 
-    ghost left = { λ v. view_of true false v.pushed [] };
+    ghost left = { λ v. view_of true false v.pushed [] [] };
 
-    ghost right = { λ v. view_of false true [] v.popped };
+    ghost right = { λ v. view_of false true [] v.popped [] };
 }
 
 impl Join<View> for Ends {
     ghost use Rattle.std.specs.Prelude.{true, false, []};
     ghost use Rattle.step_stream.specs.Streams.{view_of};
 
-    ghost both = { λ v w. view_of true true v.pushed w.popped };
+    ghost both = { λ v w. view_of true true v.pushed w.popped [] };
 
-    ghost spent = { view_of false false [] [] };
+    ghost spent = { view_of false false [] [] [] };
+}
+
+/// A note knows what was pushed by then, and the end that meets it knows it too.
+pub struct Notes;
+
+impl Split<View> for Notes {
+    ghost use Rattle.std.specs.Prelude.{false, []};
+    ghost use Rattle.step_stream.specs.Streams.{view_of};
+
+    ghost left = { λ v. v };
+
+    ghost right = { λ v. view_of false false [] [] v.pushed };
+}
+
+impl Join<View> for Notes {
+    ghost use Rattle.std.specs.Prelude.{false, []};
+    ghost use Rattle.step_stream.specs.Streams.{longer, view_of};
+
+    ghost both = { λ v w. view_of v.gives v.takes v.pushed v.popped (longer v.known w.known) };
+
+    ghost spent = { view_of false false [] [] [] };
 }
 
 /// A push adds the step behind all that was pushed; one that finds the queue full tells that no more
@@ -56,7 +79,7 @@ impl Outcome<StepMsg, View> for Pushing {
     ghost use Rattle.std.specs.Prelude.{◌≡◌, ◌++◌, ◌∷◌, []};
     ghost use Rattle.step_stream.specs.Streams.{view_of};
 
-    ghost then = { λ v x w. w ≡ view_of v.gives v.takes (v.pushed ++ x ∷ []) v.popped };
+    ghost then = { λ v x w. w ≡ view_of v.gives v.takes (v.pushed ++ x ∷ []) v.popped v.known };
 }
 
 impl Lesson<StepMsg, View> for Pushing {
@@ -65,18 +88,22 @@ impl Lesson<StepMsg, View> for Pushing {
     ghost fact = { λ v items. length items ≤ length v.pushed };
 }
 
-/// A pop adds the step behind all that was popped.
+/// A pop adds the step behind all that was popped; one that finds the queue empty tells that what the
+/// end knows to have been pushed was popped.
 pub struct Popping;
 
 impl Outcome<StepMsg, View> for Popping {
     ghost use Rattle.std.specs.Prelude.{◌≡◌, ◌++◌, ◌∷◌, []};
     ghost use Rattle.step_stream.specs.Streams.{view_of};
 
-    ghost then = { λ v x w. w ≡ view_of v.gives v.takes v.pushed (v.popped ++ x ∷ []) };
+    ghost then = { λ v x w. w ≡ view_of v.gives v.takes v.pushed (v.popped ++ x ∷ []) v.known };
 }
 
 impl Lesson<StepMsg, View> for Popping {
-    ghost fact = { λ v items. Unit {0} };
+    ghost use Rattle.std.specs.Prelude.{◌++◌};
+    ghost use mathlib.Core.List.{IsPrefix};
+
+    ghost fact = { λ v items. IsPrefix v.known (v.popped ++ items) };
 }
 
 /// Both ends together know what the queue holds.

@@ -60,3 +60,17 @@ fn an_empty_stream_has_no_step(rt: HostRuntime) -> Result<(), Fail> {
     assert!(rt; pop_two(&rt, &stream, &mut taker) == (Some(0), None));
     Ok(())
 }
+
+// What a taker knows to have been pushed it pops before it finds nothing.
+#[test]
+fn a_known_step_is_popped(rt: HostRuntime) -> Result<(), Fail> {
+    let (stream, mut giver, mut taker) = Stream::open(rt.alloc())?;
+    let before = stream.note(&mut giver);
+    assert!(rt; push_below(&rt, &stream, &mut giver, 2) == 2);
+    let behind = stream.note(&mut giver);
+    stream.meet(&mut taker, behind);
+    stream.meet(&mut taker, before);
+    assert!(rt; pop_two(&rt, &stream, &mut taker) == (Some(0), Some(1)));
+    assert!(rt; stream.pop(&rt, &mut taker).is_none());
+    Ok(())
+}
