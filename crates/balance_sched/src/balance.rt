@@ -21,6 +21,8 @@ pub struct BalanceLeader {
     name: Text,
     last: Option<Proposal>,
     asks: u64,
+    at: u64,
+    heard: Option<Fate>,
     alloc: Global,
 }
 
@@ -30,6 +32,8 @@ pub struct BalanceRegion {
     name: Text,
     last: Option<Proposal>,
     asks: u64,
+    at: u64,
+    heard: Option<Fate>,
     alloc: Global,
 }
 
@@ -39,11 +43,15 @@ impl BalanceLeader {
         ensures name { IfOk result (λ one. one.name ≡ codes "balance-leader-scheduler") }
         ensures last { IfOk result (λ one. one.last ≡ None) }
         ensures asks { IfOk result (λ one. one.asks ≡ 0) }
+        ensures at { IfOk result (λ one. one.at ≡ 0) }
+        ensures heard { IfOk result (λ one. one.heard ≡ None) }
     {
         Ok(BalanceLeader {
             name: Text::of(String::from_str(alloc, "balance-leader-scheduler")?),
             last: None,
             asks: 0,
+            at: 0,
+            heard: None,
             alloc,
         })
     }
@@ -55,11 +63,15 @@ impl BalanceRegion {
         ensures name { IfOk result (λ one. one.name ≡ codes "balance-region-scheduler") }
         ensures last { IfOk result (λ one. one.last ≡ None) }
         ensures asks { IfOk result (λ one. one.asks ≡ 0) }
+        ensures at { IfOk result (λ one. one.at ≡ 0) }
+        ensures heard { IfOk result (λ one. one.heard ≡ None) }
     {
         Ok(BalanceRegion {
             name: Text::of(String::from_str(alloc, "balance-region-scheduler")?),
             last: None,
             asks: 0,
+            at: 0,
+            heard: None,
             alloc,
         })
     }
@@ -71,6 +83,10 @@ impl Scheduler for BalanceLeader {
     ghost last = { λ s. s.last };
 
     ghost asks = { λ s. s.asks };
+
+    ghost at = { λ s. s.at };
+
+    ghost heard = { λ s. s.heard };
 
     fn name(&self) -> &Text {
         &self.name
@@ -88,10 +104,14 @@ impl Scheduler for BalanceLeader {
     ) -> Result<Option<Proposal>, NoMemory>
         ensures answer { IfOk result (λ proposal. proposal ≡ self.new.last) }
         ensures asks { self.new.asks ≡ more_by_one self.old.asks }
+        ensures at { self.new.at ≡ now }
+        ensures heard { self.new.heard ≡ None }
         ensures name { self.new.name ≡ self.old.name }
         ensures proposes { IfOk result (Proposes kinds.Leaders (tables_of stores.now standing.now rules.now busy.now now)) }
     {
         self.asks = self.asks.saturating_add(1);
+        self.at = now;
+        self.heard = None;
         let view = View {
             kind: Kind::Leaders,
             stores,
@@ -105,7 +125,9 @@ impl Scheduler for BalanceLeader {
         Ok(proposal)
     }
 
-    fn note(&mut self, _fate: Fate) {}
+    fn note(&mut self, fate: Fate) {
+        self.heard = Some(fate);
+    }
 }
 
 impl Scheduler for BalanceRegion {
@@ -114,6 +136,10 @@ impl Scheduler for BalanceRegion {
     ghost last = { λ s. s.last };
 
     ghost asks = { λ s. s.asks };
+
+    ghost at = { λ s. s.at };
+
+    ghost heard = { λ s. s.heard };
 
     fn name(&self) -> &Text {
         &self.name
@@ -131,10 +157,14 @@ impl Scheduler for BalanceRegion {
     ) -> Result<Option<Proposal>, NoMemory>
         ensures answer { IfOk result (λ proposal. proposal ≡ self.new.last) }
         ensures asks { self.new.asks ≡ more_by_one self.old.asks }
+        ensures at { self.new.at ≡ now }
+        ensures heard { self.new.heard ≡ None }
         ensures name { self.new.name ≡ self.old.name }
         ensures proposes { IfOk result (Proposes kinds.Regions (tables_of stores.now standing.now rules.now busy.now now)) }
     {
         self.asks = self.asks.saturating_add(1);
+        self.at = now;
+        self.heard = None;
         let view = View {
             kind: Kind::Regions,
             stores,
@@ -148,5 +178,7 @@ impl Scheduler for BalanceRegion {
         Ok(proposal)
     }
 
-    fn note(&mut self, _fate: Fate) {}
+    fn note(&mut self, fate: Fate) {
+        self.heard = Some(fate);
+    }
 }

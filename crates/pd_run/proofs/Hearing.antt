@@ -4,8 +4,9 @@ use Rattle.std.specs.Prelude.{IfOk, None, Option, Some, Result, Ok, Err, flat_ma
 use Rattle.std.proofs.lemmas.List.{length-append}
 use Rattle.pd_types.specs.declared.request.Request.{Request}
 use Rattle.sched_api.specs.Benches.{Seat, Seats, names_of}
+use Rattle.sched_api.specs.declared.scheduler.Fate.{Fate}
 use Rattle.sched_api.specs.declared.scheduler.Said.{Said}
-use Rattle.pd_state.specs.BenchHeard.{Becomes, names_heard}
+use Rattle.pd_state.specs.BenchHeard.{Becomes, fate_told, names_heard}
 use Rattle.pd_state.specs.declared.entry.Entry.{Entry}
 use Rattle.pd_state.specs.declared.reply.Reply.{Reply}
 use Rattle.pd_shared.specs.Benches.{IsOver, removed_name}
@@ -32,28 +33,29 @@ no_turn : (n : ℕ) (one : Seat) (others : List Seat) → drop n [] ++ take n []
 no_turn zero one others is = let n : 0 ≡ length (one ∷ others) = ap length is in omega (arith, n)
 no_turn (suc n) one others is = let m : 0 ≡ length (one ∷ others) = ap length is in omega (arith, m)
 
-stays : (said : List Said) (name : Option (List ℕ)) (old new : Seats) → old.list ≡ [] → Becomes said name old new → new ≡ old
-stays [] None old new none same = same
-stays [] (Some name) old new none drops =
+stays : (now : ℕ) (fate : Option Fate) (said : List Said) (name : Option (List ℕ)) (old new : Seats) → old.list ≡ [] → Becomes now fate said name old new → new ≡ old
+stays now fate [] None old new none same = same
+stays now fate [] (Some name) old new none drops =
     let one : 0 ≡ length (drops.list.before ++ drops.one ∷ drops.list.behind) = ap length (sym none ∙ drops.list.whole) in
     let more = length-append drops.list.before (drops.one ∷ drops.list.behind) in
     absurd (omega (arith, one, more))
-stays (one ∷ more) name old new none turn =
+stays now fate (one ∷ more) name old new none turned =
+    let turn = turned.turn in
     absurd (no_turn old.next turn.one turn.others (subst (λ (list : List Seat). drop old.next list ++ take old.next list ≡ turn.one ∷ turn.others) none turn.turn))
 
-pub over_no_bench : (entry : Entry) (old new : Seats) → old.list ≡ [] → old.next ≡ 0 → old.said ≡ [] → IsOver entry old new → IsOver entry no_seats no_seats
-over_no_bench entry old new list next said over =
-    let empty : old ≡ no_seats = λ i. record { list = list i; next = next i; said = said i } in
-    let same : new ≡ no_seats = stays entry.bench (removed_name entry) old new list over.becomes ∙ empty in
+pub over_no_bench : (entry : Entry) (old new : Seats) → old.list ≡ [] → old.next ≡ 0 → old.last ≡ None → old.said ≡ [] → IsOver entry old new → IsOver entry no_seats no_seats
+over_no_bench entry old new list next last said over =
+    let empty : old ≡ no_seats = λ i. record { list = list i; next = next i; last = last i; said = said i } in
+    let same : new ≡ no_seats = stays over.now (fate_told entry.reply) entry.bench (removed_name entry) old new list over.becomes ∙ empty in
     subst (λ (s : Seats). IsOver entry s no_seats) empty (subst (λ (s : Seats). IsOver entry old s) same over)
 
 -- a call over such a bench
-pub made_alone : {B E : Type 0} (seats : B → Seats) (line : ℕ) (request : Request) (old new : ShareValue) (bench : Option B) (one other : Seats) (result : Result Reply E) → None ≡ bench → one.list ≡ [] → one.next ≡ 0 → one.said ≡ []
+pub made_alone : {B E : Type 0} (seats : B → Seats) (line : ℕ) (request : Request) (old new : ShareValue) (bench : Option B) (one other : Seats) (result : Result Reply E) → None ≡ bench → one.list ≡ [] → one.next ≡ 0 → one.last ≡ None → one.said ≡ []
     → IfOk result (λ (reply : Reply). Called old new one other line request reply) → IfOk result (λ (reply : Reply). Made seats line request reply old new bench bench)
-made_alone seats line request old new bench one other (Ok reply) none list next said call = record {
+made_alone seats line request old new bench one other (Ok reply) none list next last said call = record {
   entry = call.entry;
   entry_is = call.entry_is;
   gained = call.gained;
-  over = subst (λ o. IsOver call.entry (seats_of seats o) (seats_of seats o)) none (over_no_bench call.entry one other list next said call.over);
+  over = subst (λ o. IsOver call.entry (seats_of seats o) (seats_of seats o)) none (over_no_bench call.entry one other list next last said call.over);
 }
-made_alone seats line request old new bench one other (Err fault) none list next said call = call
+made_alone seats line request old new bench one other (Err fault) none list next last said call = call

@@ -9,7 +9,7 @@ use Rattle.pd_shared.specs.Shares.{entries_of}
 
 -- a bench without schedulers, which says nothing
 abbrev pub no_seats : Seats
-no_seats = record { list = []; next = 0; said = [] }
+no_seats = record { list = []; next = 0; last = None; said = [] }
 
 -- the bench, where there is one; else one without schedulers
 abbrev pub seats_of : {B : Type 0} → (B → Seats) → Option B → Seats

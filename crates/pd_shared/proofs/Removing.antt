@@ -1,5 +1,5 @@
 -- Which scheduler an entry removed, by its reply.
-use Rattle.std.proofs.Common.{refl, ◌≡◌, ℕ, Bool, true, false, cond, List, ap, sym, ◌∙◌, subst, Option, Some, None}
+use Rattle.std.proofs.Common.{refl, ◌≡◌, ◌≤◌, ℕ, max, arith, Bool, true, false, cond, List, ap, sym, ◌∙◌, subst, Option, Some, None}
 use Rattle.std.specs.Prelude.{◌≢◌, Result, Ok, codes}
 use Rattle.std.specs.Str.{bytes_eq}
 use Rattle.json.specs.Print.{escape_byte}
@@ -12,12 +12,12 @@ use Rattle.pd_ctl.specs.declared.command.Command.TheVariants as commands
 use Rattle.pd_ctl.specs.declared.fault.CtlFault.{CtlFault}
 use Rattle.pd_ctl.specs.Trees.{fault_tree}
 use Rattle.pd_ctl.proofs.Written.{absent_is}
-use Rattle.pd_state.specs.BenchHeard.{Becomes, OverBench, dropped, dropped_by, names_left}
+use Rattle.pd_state.specs.BenchHeard.{Becomes, OverBench, asked_at, dropped, dropped_by, fate_told, names_left}
 use Rattle.pd_state.specs.Ctl.{reply_or, words_report}
 use Rattle.pd_state.specs.Heard.{heard_of}
 use Rattle.pd_state.specs.Legal.{IsLegalAfter, first_reply}
 use Rattle.pd_state.specs.Reports.{command_told, done_tree, has_name, removal_tree, reported}
-use Rattle.pd_state.specs.State.{part_after}
+use Rattle.pd_state.specs.State.{moment_of, part_after}
 use Rattle.pd_state.specs.declared.entry.Entry.{Entry}
 use Rattle.pd_state.specs.declared.heard.Heard.{Heard}
 use Rattle.pd_state.specs.declared.part.Part.{Part}
@@ -52,12 +52,26 @@ by_request driver (Some part) (ask.Ctl moment words) heard reply is = by_words d
 by_request driver None request heard reply is = refl
 by_request driver (Some part) request heard reply is = refl
 
+-- a clock has the moments that it was raised to
+raised_to : (clock moment : ℕ) → moment ≤ max clock moment
+raised_to clock moment = omega arith
+
+no_more : (moment : ℕ) → moment ≤ moment
+no_more moment = omega arith
+
+asked_later : (part : Option Part) (request : Request) → moment_of request ≤ asked_at part request
+asked_later None request = no_more (moment_of request)
+asked_later (Some part) request = raised_to part.clock (moment_of request)
+
 -- what the tables before an entry tell of its bench, its reply tells too
 pub over_entry : (driver : ℕ) (past : List Entry) (entry : Entry) (old new : Seats) → IsLegalAfter driver past entry → OverBench (part_after past) entry old new → IsOver entry old new
 over_entry driver past entry old new legal over =
-    let same : dropped (part_after past) entry.request entry.names ≡ removed_name entry = by_request driver (part_after past) entry.request (heard_of entry) entry.reply legal.reply_is in record {
+    let same : dropped (part_after past) entry.request entry.names ≡ removed_name entry = by_request driver (part_after past) entry.request (heard_of entry) entry.reply legal.reply_is in
+    let now = asked_at (part_after past) entry.request in record {
       names = over.names;
-      becomes = subst (λ (o : Option (List ℕ)). Becomes entry.bench o old new) same over.becomes;
+      now = now;
+      moment = asked_later (part_after past) entry.request;
+      becomes = subst (λ (o : Option (List ℕ)). Becomes now (fate_told entry.reply) entry.bench o old new) same over.becomes;
       said = over.said;
       left = over.left ∙ ap (λ (o : Option (List ℕ)). names_left o (names_of old)) same;
     }

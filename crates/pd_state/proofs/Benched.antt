@@ -6,8 +6,10 @@ use Rattle.std.proofs.lemmas.Slice.Eq.{bytes_eq-Decides}
 use Rattle.pd_types.specs.declared.request.Request.{Request}
 use Rattle.pd_types.specs.declared.request.Request.TheVariants as ask
 use Rattle.sched_api.specs.Benches.{Drops, Seat, Seats, names_of}
+use Rattle.sched_api.proofs.TurnLemmas.{tells_names, tells_said}
+use Rattle.sched_api.specs.declared.scheduler.Fate.{Fate}
 use Rattle.sched_api.specs.declared.scheduler.Said.{Said}
-use Rattle.pd_state.specs.BenchHeard.{Becomes, OverBench, asks_names, dropped, names_heard, names_left, one_turn, turns_of, without_first}
+use Rattle.pd_state.specs.BenchHeard.{Becomes, IsTold, OverBench, asked_at, asks_names, dropped, fate_told, names_heard, names_left, one_turn, turns_of, without_first}
 use Rattle.pd_state.specs.declared.entry.Entry.{Entry}
 use Rattle.pd_state.specs.declared.part.Part.{Part}
 
@@ -62,27 +64,37 @@ drop_names : (name : List ℕ) (old new : Seats) → Drops name old new → name
 drop_names name old new h =
     ap (map (λ (seat : Seat). seat.name)) h.list.left ∙ gone_first name h.list.before h.one h.list.behind h.named h.first ∙ ap (λ (l : List Seat). without_first name (map (λ (seat : Seat). seat.name) l)) (sym h.list.whole)
 
+-- who is told of a proposal keeps its name, and says nothing by it
+told_said : (fate : Option Fate) (old new : Seats) → IsTold fate old new → new.said ≡ old.said
+told_said None old new h = ap (λ (s : Seats). s.said) h
+told_said (Some fate) old new h = tells_said fate old new h
+
+told_names : (fate : Option Fate) (old new : Seats) → IsTold fate old new → names_of new ≡ names_of old
+told_names None old new h = ap names_of h
+told_names (Some fate) old new h = tells_names fate old new h
+
 -- what was said grew by just this
-grown : (said : List Said) (name : Option (List ℕ)) (old new : Seats) → length said ≤ 1 → Becomes said name old new → new.said ≡ old.said ++ said
-grown [] None old new few h = ap (λ (s : Seats). s.said) h ∙ sym (append-nil old.said)
-grown [] (Some name) old new few h = h.said ∙ sym (append-nil old.said)
-grown (one ∷ more) name old new few h = h.grown ∙ ap (λ (l : List Said). old.said ++ one ∷ l) (sym (none_left more (omega (arith, few))))
+grown : (now : ℕ) (fate : Option Fate) (said : List Said) (name : Option (List ℕ)) (old new : Seats) → length said ≤ 1 → Becomes now fate said name old new → new.said ≡ old.said ++ said
+grown now fate [] None old new few h = ap (λ (s : Seats). s.said) h ∙ sym (append-nil old.said)
+grown now fate [] (Some name) old new few h = h.said ∙ sym (append-nil old.said)
+grown now fate (one ∷ more) name old new few h = told_said fate h.asked new h.told ∙ h.turn.grown ∙ ap (λ (l : List Said). old.said ++ one ∷ l) (sym (none_left more (omega (arith, few))))
 
 -- the names that are left
-left_by : (part : Option Part) (request : Request) (names : List (List ℕ)) (said : List Said) (name : Option (List ℕ)) (old new : Seats) → dropped part request names ≡ name → length said ≡ turns_of part request names → Becomes said name old new
-    → names_of new ≡ names_left name (names_of old)
-left_by part request names [] None old new is turns h = ap names_of h
-left_by part request names [] (Some name) old new is turns h = drop_names name old new h
-left_by part request names (one ∷ more) name old new is turns h = h.names ∙ ap (λ (o : Option (List ℕ)). names_left o (names_of old)) (sym (none_dropped part request names (length more) turns) ∙ is)
+left_by : (now : ℕ) (fate : Option Fate) (part : Option Part) (request : Request) (names : List (List ℕ)) (said : List Said) (name : Option (List ℕ)) (old new : Seats) → dropped part request names ≡ name
+    → length said ≡ turns_of part request names → Becomes now fate said name old new → names_of new ≡ names_left name (names_of old)
+left_by now fate part request names [] None old new is turns h = ap names_of h
+left_by now fate part request names [] (Some name) old new is turns h = drop_names name old new h
+left_by now fate part request names (one ∷ more) name old new is turns h =
+    told_names fate h.asked new h.told ∙ h.turn.names ∙ ap (λ (o : Option (List ℕ)). names_left o (names_of old)) (sym (none_dropped part request names (length more) turns) ∙ is)
 
 -- of an entry over a journal whose tables stood so
 pub over_bench : (part after : Option Part) (entry : Entry) (names : List (List ℕ)) (old new : Seats) → part ≡ after → names ≡ names_of old → entry.names ≡ names_heard entry.request names → length entry.bench ≡ turns_of part entry.request entry.names
-    → Becomes entry.bench (dropped part entry.request entry.names) old new → OverBench after entry old new
+    → Becomes (asked_at part entry.request) (fate_told entry.reply) entry.bench (dropped part entry.request entry.names) old new → OverBench after entry old new
 over_bench part after entry names old new same names_is heard turns h =
     subst (λ (p : Option Part). OverBench p entry old new) same
-    (let most = most_turns part entry.request entry.names in record {
+    (let most = most_turns part entry.request entry.names in let now = asked_at part entry.request in let fate = fate_told entry.reply in record {
       names = heard ∙ ap (names_heard entry.request) names_is;
       becomes = h;
-      said = grown entry.bench (dropped part entry.request entry.names) old new (omega (arith, turns, most)) h;
-      left = left_by part entry.request entry.names entry.bench (dropped part entry.request entry.names) old new refl turns h;
+      said = grown now fate entry.bench (dropped part entry.request entry.names) old new (omega (arith, turns, most)) h;
+      left = left_by now fate part entry.request entry.names entry.bench (dropped part entry.request entry.names) old new refl turns h;
     })

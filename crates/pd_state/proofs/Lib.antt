@@ -9,6 +9,7 @@ pub mod Ends
 pub mod Buried
 pub mod Deleted
 pub mod Benched
+pub mod Fates
 pub mod Alone
 pub mod Removals
 pub mod Turns

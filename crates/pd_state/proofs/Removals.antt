@@ -14,12 +14,13 @@ use Rattle.sched_api.specs.declared.scheduler.Said.{Said}
 use Rattle.pd_ctl.specs.declared.command.Command.{Command}
 use Rattle.pd_ctl.specs.declared.command.Command.TheVariants as commands
 use Rattle.pd_ctl.specs.declared.fault.CtlFault.{CtlFault}
-use Rattle.pd_state.specs.BenchHeard.{Becomes, dropped, dropped_by, found_name, names_by, names_heard, turns_of}
+use Rattle.pd_state.specs.BenchHeard.{Becomes, Leaves, asked_at, dropped, dropped_by, fate_told, found_name, names_by, names_heard, turns_of}
 use Rattle.pd_state.specs.Calls.{next_call}
 use Rattle.pd_state.specs.Ctl.{resigns_by}
 use Rattle.pd_state.specs.Reports.{command_told, has_name}
 use Rattle.pd_state.specs.declared.heard.Heard.{Heard}
 use Rattle.pd_state.specs.declared.part.Part.{Part}
+use Rattle.pd_state.specs.declared.reply.Reply.{Reply}
 use Rattle.pd_state.proofs.Benched.{other_name, same_name}
 
 -- whether one of these names is the name
@@ -36,32 +37,32 @@ none_of name [] h = refl
 none_of name (one ∷ names) h = ap (λ (t : Bool). t || has_name name names) (other_name one name (h 0 one (omega arith))) ∙ none_of name names (λ k d low. h (suc k) d (omega (arith, low)))
 
 -- the first of the name went, or there is none
-pub removed_so : {A E : Type 0} (name : List ℕ) (r : Result A E) (old new : Seats) → OnOk r (Drops name old new) → (IsErr r ↔ All (λ (one : List ℕ). one ≢ name) (names_of old)) → OnErr r (new ≡ old) → Becomes [] (found_name name (names_of old)) old new
+pub removed_so : {A E : Type 0} (name : List ℕ) (r : Result A E) (old new : Seats) → OnOk r (Drops name old new) → (IsErr r ↔ All (λ (one : List ℕ). one ≢ name) (names_of old)) → OnErr r (new ≡ old) → Leaves (found_name name (names_of old)) old new
 removed_so name (Ok done) old new drops absent stays = by (has_name name (names_of old)) refl
   where
-    by : (t : Bool) → has_name name (names_of old) ≡ t → Becomes [] (cond t (Some name) None) old new
+    by : (t : Bool) → has_name name (names_of old) ≡ t → Leaves (cond t (Some name) None) old new
     by true is = drops
     by false is = absurd (let both : false ≡ true = absent.1 (none_has name (names_of old) is) in cc)
-removed_so name (Err e) old new drops absent stays = subst (λ (t : Bool). Becomes [] (cond t (Some name) None) old new) (sym (none_of name (names_of old) (absent.0 refl))) stays
+removed_so name (Err e) old new drops absent stays = subst (λ (t : Bool). Leaves (cond t (Some name) None) old new) (sym (none_of name (names_of old) (absent.0 refl))) stays
 
 -- the same of the words that say so
 pub removal_so : {A E : Type 0} (told : Result Command CtlFault) (command : Command) (name bytes : List ℕ) (r : Result A E) (old new : Seats) → told ≡ Ok command → command ≡ commands.SchedulerRemove name → bytes ≡ name → OnOk r (Drops bytes old new)
-    → (IsErr r ↔ All (λ (one : List ℕ). one ≢ bytes) (names_of old)) → OnErr r (new ≡ old) → Becomes [] (dropped_by told (names_of old)) old new
+    → (IsErr r ↔ All (λ (one : List ℕ). one ≢ bytes) (names_of old)) → OnErr r (new ≡ old) → Leaves (dropped_by told (names_of old)) old new
 removal_so told command name bytes r old new told_is command_is same drops absent stays =
-    subst (λ (o : Option (List ℕ)). Becomes [] o old new) (ap (λ (n : List ℕ). found_name n (names_of old)) same ∙ ap (λ (t : Result Command CtlFault). dropped_by t (names_of old)) (sym (told_is ∙ ap (λ (c : Command). Ok c) command_is)))
+    subst (λ (o : Option (List ℕ)). Leaves o old new) (ap (λ (n : List ℕ). found_name n (names_of old)) same ∙ ap (λ (t : Result Command CtlFault). dropped_by t (names_of old)) (sym (told_is ∙ ap (λ (c : Command). Ok c) command_is)))
     (removed_so bytes r old new drops absent stays)
 
 -- any other words leave the bench
-pub kept_fault : (told : Result Command CtlFault) (seats : Seats) → ((command : Command) → told ≡ Ok command → ⊥) → Becomes [] (dropped_by told (names_of seats)) seats seats
+pub kept_fault : (told : Result Command CtlFault) (seats : Seats) → ((command : Command) → told ≡ Ok command → ⊥) → Leaves (dropped_by told (names_of seats)) seats seats
 kept_fault (Ok command) seats never = absurd (never command refl)
 kept_fault (Err fault) seats never = refl
 
-kept_command : (command : Command) (seats : Seats) → ((name : List ℕ) → command ≡ commands.SchedulerRemove name → ⊥) → Becomes [] (dropped_by (Ok command) (names_of seats)) seats seats
+kept_command : (command : Command) (seats : Seats) → ((name : List ℕ) → command ≡ commands.SchedulerRemove name → ⊥) → Leaves (dropped_by (Ok command) (names_of seats)) seats seats
 kept_command (commands.SchedulerRemove name) seats never = absurd (never name refl)
 kept_command command seats never = refl
 
-pub kept_other : (told : Result Command CtlFault) (command : Command) (seats : Seats) → told ≡ Ok command → ((name : List ℕ) → command ≡ commands.SchedulerRemove name → ⊥) → Becomes [] (dropped_by told (names_of seats)) seats seats
-kept_other told command seats is never = subst (λ (t : Result Command CtlFault). Becomes [] (dropped_by t (names_of seats)) seats seats) (sym is) (kept_command command seats never)
+pub kept_other : (told : Result Command CtlFault) (command : Command) (seats : Seats) → told ≡ Ok command → ((name : List ℕ) → command ≡ commands.SchedulerRemove name → ⊥) → Leaves (dropped_by told (names_of seats)) seats seats
+kept_other told command seats is never = subst (λ (t : Result Command CtlFault). Leaves (dropped_by t (names_of seats)) seats seats) (sym is) (kept_command command seats never)
 
 -- of the names that a command hears, it takes the same one out as of all
 pub heard_drops : (told : Result Command CtlFault) (names : List (List ℕ)) → dropped_by told (cond (names_by told) names []) ≡ dropped_by told names
@@ -76,19 +77,19 @@ module _ (words : List ℕ) (told : Result Command CtlFault) (names heard : List
   ctl_drops : dropped_by told names ≡ dropped_by (command_told words) heard
   ctl_drops = sym (heard_drops told names) ∙ (λ i. dropped_by (told_is i) (sym heard_is i))
 
-  pub ctl_becomes : (part : Option Part) (old : Part) (moment : ℕ) (seats new : Seats) → part ≡ Some old → names ≡ names_of seats → Becomes [] (dropped_by told (names_of seats)) seats new → Becomes [] (dropped part (ask.Ctl moment words) heard) seats new
+  pub ctl_becomes : (part : Option Part) (old : Part) (moment : ℕ) (seats new : Seats) → part ≡ Some old → names ≡ names_of seats → Leaves (dropped_by told (names_of seats)) seats new → Leaves (dropped part (ask.Ctl moment words) heard) seats new
   ctl_becomes part old moment seats new part_is all h =
-      subst (λ (o : Option (List ℕ)). Becomes [] o seats new) (ap (dropped_by told) (sym all) ∙ ctl_drops ∙ ap (λ (p : Option Part). dropped p (ask.Ctl moment words) heard) (sym part_is)) h
+      subst (λ (o : Option (List ℕ)). Leaves o seats new) (ap (dropped_by told) (sym all) ∙ ctl_drops ∙ ap (λ (p : Option Part). dropped p (ask.Ctl moment words) heard) (sym part_is)) h
 
 -- Without a term a request takes no turn and no scheduler out, and makes no call
 module _ (part : Option Part) (request is : Request) (heard : Heard) (names : List (List ℕ)) (part_is : part ≡ None) (same : request ≡ is) (heard_is : heard ≡ record { answers = []; bench = []; names = names }) where
   pub absent_turns : length heard.bench ≡ turns_of part request heard.names
   absent_turns = ap (λ (h : Heard). length h.bench) heard_is ∙ ap (λ (p : Option Part). turns_of p request heard.names) (sym part_is)
 
-  pub absent_bench : (seats : Seats) → Becomes heard.bench (dropped part request heard.names) seats seats
-  absent_bench seats =
-      subst (λ (l : List Said). Becomes l (dropped part request heard.names) seats seats) (sym (ap (λ (h : Heard). h.bench) heard_is))
-      (subst (λ (p : Option Part). Becomes [] (dropped p request heard.names) seats seats) (sym part_is) refl)
+  pub absent_bench : (reply : Reply) (seats : Seats) → Becomes (asked_at part request) (fate_told reply) heard.bench (dropped part request heard.names) seats seats
+  absent_bench reply seats =
+      subst (λ (l : List Said). Becomes (asked_at part request) (fate_told reply) l (dropped part request heard.names) seats seats) (sym (ap (λ (h : Heard). h.bench) heard_is))
+      (subst (λ (p : Option Part). Leaves (dropped p request heard.names) seats seats) (sym part_is) refl)
 
   pub absent_asked : next_call None is heard.bench [] ≡ None → AreAsked (next_call part request heard.bench) [] heard.answers
   absent_asked none =

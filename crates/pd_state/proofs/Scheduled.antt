@@ -18,7 +18,7 @@ use Rattle.sched_api.specs.Benches.{Seat, Seats, TakesTurn, names_of}
 use Rattle.sched_api.specs.declared.scheduler.Said.{Said}
 use Rattle.pd_state.specs.Adding.{Adds, Around, Planning, Work, around_at, around_of, left_out, planning_of, replanned, work}
 use Rattle.pd_state.specs.Asking.{Asking, Ear, Talks, and_then, done, ear}
-use Rattle.pd_state.specs.BenchHeard.{one_turn}
+use Rattle.pd_state.specs.BenchHeard.{Becomes, IsTold, asked_at, dropped, fate_told, one_turn}
 use Rattle.pd_state.specs.Checking.{Deed, Does, idle}
 use Rattle.pd_state.specs.Scheduling.{heed, proposed, schedule_of, scheduler}
 use Rattle.pd_state.specs.Sends.{region_in}
@@ -29,6 +29,7 @@ use Rattle.pd_state.specs.declared.adding.Adding.TheVariants as adding
 use Rattle.pd_state.specs.declared.heard.Done.{Done}
 use Rattle.pd_state.specs.declared.part.Part.{Part}
 use Rattle.pd_state.specs.declared.patrol.Planned.{Planned}
+use Rattle.pd_state.specs.declared.reply.Reply.{Reply}
 use Rattle.pd_state.specs.declared.reply.Reply.TheVariants as replies
 use Rattle.pd_state.specs.declared.sent.Sent.{Sent}
 use Rattle.pd_state.specs.declared.wishing.Asker.{Asker}
@@ -138,13 +139,20 @@ filled [] zero one others is = absurd cc
 filled [] (suc next) one others is = absurd cc
 filled (seat ∷ list) next one others is = refl
 
-took_turn : (old new : Seats) (o : Option Said) (said : Said) → o ≡ Some said → IfSome o (TakesTurn old new) → TakesTurn old new said
-took_turn old new o said is h = subst (λ (x : Option Said). IfSome x (TakesTurn old new)) is h
+took_turn : (old new : Seats) (now : ℕ) (o : Option Said) (said : Said) → o ≡ Some said → IfSome o (TakesTurn old new now) → TakesTurn old new now said
+took_turn old new now o said is h = subst (λ (x : Option Said). IfSome x (TakesTurn old new now)) is h
 
-pub turn_counts : (old new : Seats) (o : Option Said) (said : Said) (list : List Said) (names : List (List ℕ)) → o ≡ Some said → IfSome o (TakesTurn old new) → list ≡ said ∷ [] → names ≡ names_of old → length list ≡ one_turn names
-turn_counts old new o said list names is h list_is names_is =
-    let t = took_turn old new o said is h in
+pub turn_counts : (old new : Seats) (now : ℕ) (o : Option Said) (said : Said) (list : List Said) (names : List (List ℕ)) → o ≡ Some said → IfSome o (TakesTurn old new now) → list ≡ said ∷ [] → names ≡ names_of old → length list ≡ one_turn names
+turn_counts old new now o said list names is h list_is names_is =
+    let t = took_turn old new now o said is h in
     ap length list_is ∙ sym (ap one_turn names_is ∙ filled old.list old.next t.one t.others t.turn)
+
+-- the bench after a turn
+pub turn_becomes : (old : Part) (moment clock : ℕ) (reply : Reply) (o : Option Said) (said : Said) (list : List Said) (names : List (List ℕ)) (before asked after : Seats) → o ≡ Some said → clock ≡ max old.clock moment → list ≡ said ∷ []
+    → IfSome o (TakesTurn before asked clock) → IsTold (fate_told reply) asked after → Becomes (asked_at (Some old) (ask.Schedule moment)) (fate_told reply) list (dropped (Some old) (ask.Schedule moment) names) before after
+turn_becomes old moment clock reply o said list names before asked after is clock_is list_is h told =
+    subst (λ (l : List Said). Becomes (asked_at (Some old) (ask.Schedule moment)) (fate_told reply) l (dropped (Some old) (ask.Schedule moment) names) before after) (sym list_is)
+    (record { asked = asked; turn = subst (λ (now : ℕ). TakesTurn before asked now said) clock_is (took_turn before asked clock o said is h); told = told })
 
 -- a bench without schedulers
 pub empty_does : (old mid : Part) (moment : ℕ) (said : List Said) (d : Done) (driver : ℕ) (spoken : List MetaAnswer) (told : Option (List MetaEntry)) → mid ≡ at_moment old moment → said ≡ [] → d.reply ≡ replies.NoScheduler → d.sents ≡ [] → d.heard.answers ≡ []

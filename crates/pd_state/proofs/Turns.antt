@@ -7,7 +7,7 @@ use Rattle.pd_types.specs.declared.request.Request.TheVariants as ask
 use Rattle.meta_store.specs.Asked.{AreAsked}
 use Rattle.sched_api.specs.Benches.{Seats}
 use Rattle.sched_api.specs.declared.scheduler.Said.{Said}
-use Rattle.pd_state.specs.BenchHeard.{Becomes, dropped, names_heard, turns_of}
+use Rattle.pd_state.specs.BenchHeard.{Becomes, Leaves, asked_at, dropped, fate_told, names_heard, turns_of}
 use Rattle.pd_state.specs.Calls.{next_call}
 use Rattle.pd_state.specs.declared.heard.Done.{Done}
 use Rattle.pd_state.specs.declared.part.Part.{Part}
@@ -27,8 +27,8 @@ module _ (part : Option Part) (held : Part) (request : Request) (moment : ℕ) (
   pub schedule_names : (names : List (List ℕ)) → IfOk r (λ done. done.heard.names ≡ names) → IfOk r (λ done. done.heard.names ≡ names_heard request names)
   schedule_names names h = subst (λ (q : Request). IfOk r (λ done. done.heard.names ≡ names_heard q names)) (sym same) h
 
-  pub schedule_bench : (old new : Seats) → IfOk r (λ done. Becomes done.heard.bench (dropped (Some held) (ask.Schedule moment) done.heard.names) old new) → IfOk r (λ done. Becomes done.heard.bench (dropped part request done.heard.names) old new)
-  schedule_bench old new h = subst (λ (x : Option Part × Request). IfOk r (λ done. Becomes done.heard.bench (dropped x.0 x.1 done.heard.names) old new)) (sym both) h
+  pub schedule_bench : (old new : Seats) → IfOk r (λ done. Becomes (asked_at (Some held) (ask.Schedule moment)) (fate_told done.reply) done.heard.bench (dropped (Some held) (ask.Schedule moment) done.heard.names) old new) → IfOk r (λ done. Becomes (asked_at part request) (fate_told done.reply) done.heard.bench (dropped part request done.heard.names) old new)
+  schedule_bench old new h = subst (λ (x : Option Part × Request). IfOk r (λ done. Becomes (asked_at x.0 x.1) (fate_told done.reply) done.heard.bench (dropped x.0 x.1 done.heard.names) old new)) (sym both) h
 
 -- the names that a turn without a term hears
 pub names_scheduled : (request : Request) (moment : ℕ) (names heard : List (List ℕ)) → request ≡ ask.Schedule moment → heard ≡ names → heard ≡ names_heard request names
@@ -52,9 +52,9 @@ module _ (part : Option Part) (request : Request) (moment : ℕ) (words : List �
   ctl_hears names h = subst (λ (q : Request). IfOk r (λ done. done.heard.names ≡ names_heard q names)) (sym same) h
 
   -- nothing is said of the bench, as the command tells it
-  pub ctl_bench : (old new : Seats) → IfOk r (λ done. done.heard.bench ≡ []) → IfOk r (λ done. Becomes [] (dropped part (ask.Ctl moment words) done.heard.names) old new) → IfOk r (λ done. Becomes done.heard.bench (dropped part request done.heard.names) old new)
-  ctl_bench old new silent h = by r silent (subst (λ (q : Request). IfOk r (λ done. Becomes [] (dropped part q done.heard.names) old new)) (sym same) h)
+  pub ctl_bench : (old new : Seats) → IfOk r (λ done. done.heard.bench ≡ []) → IfOk r (λ done. Leaves (dropped part (ask.Ctl moment words) done.heard.names) old new) → IfOk r (λ done. Becomes (asked_at part request) (fate_told done.reply) done.heard.bench (dropped part request done.heard.names) old new)
+  ctl_bench old new silent h = by r silent (subst (λ (q : Request). IfOk r (λ done. Leaves (dropped part q done.heard.names) old new)) (sym same) h)
     where
-      by : (s : Result Done NoMemory) → IfOk s (λ done. done.heard.bench ≡ []) → IfOk s (λ done. Becomes [] (dropped part request done.heard.names) old new) → IfOk s (λ done. Becomes done.heard.bench (dropped part request done.heard.names) old new)
-      by (Ok done) none left = subst (λ (l : List Said). Becomes l (dropped part request done.heard.names) old new) (sym none) left
+      by : (s : Result Done NoMemory) → IfOk s (λ done. done.heard.bench ≡ []) → IfOk s (λ done. Leaves (dropped part request done.heard.names) old new) → IfOk s (λ done. Becomes (asked_at part request) (fate_told done.reply) done.heard.bench (dropped part request done.heard.names) old new)
+      by (Ok done) none left = subst (λ (l : List Said). Becomes (asked_at part request) (fate_told done.reply) l (dropped part request done.heard.names) old new) (sym none) left
       by (Err e) none left = tt

@@ -1,16 +1,22 @@
 -- What a request hears of the bench of schedulers, and what it leaves of it (PD documentation, "Scheduling"; pd-ctl, `scheduler show` and `scheduler remove`).
-use Rattle.std.specs.Prelude.{◌≡◌, ℕ, ◌++◌, Bool, true, false, List, [], ◌∷◌, if◌then◌else◌, Option, Some, None, Result, Ok}
+use Rattle.std.specs.Prelude.{◌≡◌, ℕ, max, ◌++◌, Bool, true, false, List, [], ◌∷◌, if◌then◌else◌, Option, Some, None, Result, Ok}
 use Rattle.std.specs.Str.{bytes_eq}
 use Rattle.pd_types.specs.declared.request.Request.{Request}
 use Rattle.pd_types.specs.declared.request.Request.TheVariants as ask
-use Rattle.sched_api.specs.Benches.{Drops, Seats, TakesTurn, names_of}
+use Rattle.sched_api.specs.Benches.{Drops, Seat, Seats, TakesTurn, Tells, names_of}
+use Rattle.sched_api.specs.declared.scheduler.Fate.{Fate}
 use Rattle.sched_api.specs.declared.scheduler.Said.{Said}
 use Rattle.pd_ctl.specs.declared.command.Command.{Command}
 use Rattle.pd_ctl.specs.declared.command.Command.TheVariants as commands
 use Rattle.pd_ctl.specs.declared.fault.CtlFault.{CtlFault}
 use Rattle.pd_state.specs.Reports.{command_told, has_name}
+use Rattle.pd_state.specs.Scheduling.{fate}
+use Rattle.pd_state.specs.State.{moment_of}
+use Rattle.pd_state.specs.Wishing.{region_of}
 use Rattle.pd_state.specs.declared.entry.Entry.{Entry}
 use Rattle.pd_state.specs.declared.part.Part.{Part}
+use Rattle.pd_state.specs.declared.reply.Reply.{Reply}
+use Rattle.pd_state.specs.declared.reply.Reply.TheVariants as replies
 
 -- the command is about schedulers
 abbrev pub names_by : Result Command CtlFault → Bool
@@ -70,16 +76,48 @@ abbrev pub names_left : Option (List ℕ) → List (List ℕ) → List (List ℕ
 names_left None names = names
 names_left (Some name) names = without_first name names
 
--- the bench once it said this, or once a scheduler was taken out of it: the one whose turn it was was asked, or the first of that name went, or nothing changed
-abbrev pub Becomes : List Said → Option (List ℕ) → Seats → Seats → Type 0
-Becomes (said ∷ more) name old new = TakesTurn old new said
-Becomes [] (Some name) old new = Drops name old new
-Becomes [] None old new = new ≡ old
+-- the clock with which a request lets a scheduler propose: the cluster's, once it has the request's own moment; without a term none proposes
+abbrev pub asked_at : Option Part → Request → ℕ
+asked_at (Some part) request = max part.clock (moment_of request)
+asked_at None request = moment_of request
 
--- An entry was made over a bench: it heard the names where it asked for them; what the bench said grew by just what the entry heard of it; the names stay, but
--- for the first of the name that it took out
+-- what the scheduler is told that proposed: what became of its proposal, by the reply; one that proposed nothing is told nothing
+abbrev pub fate_told : Reply → Option Fate
+fate_told (replies.Proposed name proposal came) = Some (fate came (region_of proposal))
+fate_told reply = None
+
+-- the bench once the scheduler asked last was told this; where there is nothing to tell it stays
+abbrev pub IsTold : Option Fate → Seats → Seats → Type 0
+IsTold None old new = new ≡ old
+IsTold (Some fate) old new = Tells fate old new
+
+-- a whole turn: the scheduler whose turn it was was asked with this clock and said this, and was then told what there is to tell it
+pub record Turned (now : ℕ) (fate : Option Fate) (said : Said) (old new : Seats) : Type 0 where
+  pub asked : Seats
+  pub turn : TakesTurn old asked now said
+  pub told : IsTold fate asked new
+
+-- the scheduler that said this was asked with this clock, and this is what it was told since
+pub record HasHeard (now : ℕ) (fate : Option Fate) (said : Said) (one : Seat) : Type 0 where
+  pub name : one.name ≡ said.name
+  pub last : one.last ≡ said.proposal
+  pub at : one.at ≡ now
+  pub heard : one.heard ≡ fate
+
+-- the bench once the first scheduler of a name was taken out of it; without a name it stays
+abbrev pub Leaves : Option (List ℕ) → Seats → Seats → Type 0
+Leaves (Some name) old new = Drops name old new
+Leaves None old new = new ≡ old
+
+-- the bench once it said this, asked with this clock and told this fate, or once a scheduler was taken out of it
+abbrev pub Becomes : ℕ → Option Fate → List Said → Option (List ℕ) → Seats → Seats → Type 0
+Becomes now fate (said ∷ more) name old new = Turned now fate said old new
+Becomes now fate [] name old new = Leaves name old new
+
+-- An entry was made over a bench: it heard the names where it asked for them; a scheduler that it let propose was asked with the cluster's clock and told what
+-- became of just that proposal; what the bench said grew by just what the entry heard of it; the names stay, but for the first of the name that it took out
 pub record OverBench (part : Option Part) (entry : Entry) (old new : Seats) : Type 0 where
   pub names : entry.names ≡ names_heard entry.request (names_of old)
-  pub becomes : Becomes entry.bench (dropped part entry.request entry.names) old new
+  pub becomes : Becomes (asked_at part entry.request) (fate_told entry.reply) entry.bench (dropped part entry.request entry.names) old new
   pub said : new.said ≡ old.said ++ entry.bench
   pub left : names_of new ≡ names_left (dropped part entry.request entry.names) (names_of old)

@@ -5,7 +5,7 @@ ghost use Rattle.meta_store.specs.Doors.{Serves};
 ghost use Rattle.sched_api.specs.Benches.{names_of};
 ghost use Rattle.pd_state.specs.Adding.{planning_of};
 ghost use Rattle.pd_state.specs.Asking.{ear};
-ghost use Rattle.pd_state.specs.BenchHeard.{Becomes, dropped, dropped_by, names_by, names_heard};
+ghost use Rattle.pd_state.specs.BenchHeard.{Leaves, dropped, dropped_by, names_by, names_heard};
 ghost use Rattle.pd_state.specs.Calls.{next_call};
 ghost use Rattle.pd_state.specs.Ctl.{Carries, HasRate, HaveRate, resigns_by};
 ghost use Rattle.pd_state.specs.Heard.{told_all};
@@ -50,7 +50,7 @@ fn names_for<B: Seated>(
 
 // Takes a scheduler out of the bench, where the command says so and there is one of that name.
 fn drop_named<B: Seated>(told: &Result<Command, CtlFault>, bench: &mut B)
-    ensures becomes { Becomes [] (dropped_by told.now (names_of (B.seats bench.old))) (B.seats bench.old) (B.seats bench.new) }
+    ensures becomes { Leaves (dropped_by told.now (names_of (B.seats bench.old))) (B.seats bench.old) (B.seats bench.new) }
 {
     let Ok(command) = told else {
         return;
@@ -157,7 +157,7 @@ pub fn ctl<M: Door, B: Seated>(
     ensures asked { IfOk result (λ done. AreAsked (next_call part.old (Request.Ctl moment words.now) done.heard.bench) [] done.heard.answers) }
     ensures silent { IfOk result (λ done. done.heard.bench ≡ []) }
     ensures names { IfOk result (λ done. done.heard.names ≡ names_heard (Request.Ctl moment words.now) (names_of (B.seats bench.old))) }
-    ensures becomes { IfOk result (λ done. Becomes [] (dropped part.old (Request.Ctl moment words.now) done.heard.names) (B.seats bench.old) (B.seats bench.new)) }
+    ensures becomes { IfOk result (λ done. Leaves (dropped part.old (Request.Ctl moment words.now) done.heard.names) (B.seats bench.old) (B.seats bench.new)) }
     ensures after { IfOk result (λ done. part.new ≡ stepped part.old (Request.Ctl moment words.now) done.reply done.heard) }
     ensures sents { IfOk result (λ done. done.sents ≡ sents_by part.old (Request.Ctl moment words.now) done.reply done.heard) }
     ensures said { IfOk result (λ done. M.said door.new ≡ M.said door.old ++ done.heard.answers) }

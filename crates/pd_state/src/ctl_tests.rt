@@ -16,6 +16,8 @@ struct Given {
     place: usize,
     last: Option<Proposal>,
     asks: u64,
+    at: u64,
+    heard: Option<Fate>,
 }
 
 impl Scheduler for Given {
@@ -24,6 +26,10 @@ impl Scheduler for Given {
     ghost last = { λ s. s.last };
 
     ghost asks = { λ s. s.asks };
+
+    ghost at = { λ s. s.at };
+
+    ghost heard = { λ s. s.heard };
 
     fn name(&self) -> &Text {
         &self.name
@@ -35,15 +41,19 @@ impl Scheduler for Given {
         _standing: &Standing,
         _rules: &RuleSet,
         _busy: &Ids,
-        _now: u64,
+        now: u64,
     ) -> Result<Option<Proposal>, NoMemory> {
         self.asks = self.asks.saturating_add(1);
+        self.at = now;
+        self.heard = None;
         self.last = self.list.as_slice().get(self.place).copied();
         self.place = self.place.saturating_add(1);
         Ok(self.last)
     }
 
-    fn note(&mut self, _fate: Fate) {}
+    fn note(&mut self, fate: Fate) {
+        self.heard = Some(fate);
+    }
 }
 
 // Proposes that the store loses the region's peer: of region 1, and of the next one only once an
@@ -54,6 +64,8 @@ struct Patient {
     region: u64,
     last: Option<Proposal>,
     asks: u64,
+    at: u64,
+    heard: Option<Fate>,
 }
 
 impl Scheduler for Patient {
@@ -62,6 +74,10 @@ impl Scheduler for Patient {
     ghost last = { λ s. s.last };
 
     ghost asks = { λ s. s.asks };
+
+    ghost at = { λ s. s.at };
+
+    ghost heard = { λ s. s.heard };
 
     fn name(&self) -> &Text {
         &self.name
@@ -73,15 +89,18 @@ impl Scheduler for Patient {
         _standing: &Standing,
         _rules: &RuleSet,
         _busy: &Ids,
-        _now: u64,
+        now: u64,
     ) -> Result<Option<Proposal>, NoMemory> {
         self.asks = self.asks.saturating_add(1);
+        self.at = now;
+        self.heard = None;
         let region = self.region;
         self.last = Some(Proposal::DropPeer { region, store: 3 });
         Ok(self.last)
     }
 
     fn note(&mut self, fate: Fate) {
+        self.heard = Some(fate);
         match fate {
             Fate::Added(region) => self.region = region.saturating_add(1),
             Fate::Refused => {}
@@ -99,6 +118,8 @@ fn bench_of(alloc: Global, rows: &[(&str, &[Proposal])]) -> Result<Bench, Fail> 
             place: 0,
             last: None,
             asks: 0,
+            at: 0,
+            heard: None,
         };
         list.push(Box::new(alloc, one)?)?;
     }
@@ -311,6 +332,8 @@ fn a_scheduler_is_told_what_became_of_its_proposal(rt: HostRuntime) -> Result<()
         region: 1,
         last: None,
         asks: 0,
+        at: 0,
+        heard: None,
     };
     let mut list: Vec<Box<dyn Scheduler + Send>> = Vec::new(alloc);
     list.push(Box::new(alloc, patient)?)?;

@@ -32,6 +32,7 @@ mod serve;
 mod stores;
 #[cfg(test)]
 mod tests;
+mod turn_laws;
 mod wishing;
 mod write;
 
@@ -61,3 +62,4 @@ pub use rule_laws::{
     what_is_stored_of_a_rule,
 };
 pub use scheduling::SCHEDULER_PRIORITY;
+pub use turn_laws::{what_is_told_of_a_proposal, who_spoke_has_heard};

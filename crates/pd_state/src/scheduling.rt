@@ -5,7 +5,7 @@ ghost use Rattle.meta_store.specs.Doors.{Serves};
 ghost use Rattle.sched_api.specs.Benches.{names_of};
 ghost use Rattle.pd_state.specs.Adding.{around_of, planning_of, replanned};
 ghost use Rattle.pd_state.specs.Asking.{ear};
-ghost use Rattle.pd_state.specs.BenchHeard.{Becomes, dropped, turns_of};
+ghost use Rattle.pd_state.specs.BenchHeard.{Becomes, IsTold, asked_at, dropped, fate_told, turns_of};
 ghost use Rattle.pd_state.specs.Calls.{next_call};
 ghost use Rattle.pd_state.specs.Checking.{Does};
 ghost use Rattle.pd_state.specs.Heard.{IsAlone, told_all};
@@ -78,7 +78,7 @@ fn heed<M: Door>(
 
 // Tells the scheduler that was asked last what became of its proposal; of none it is told nothing.
 fn tell<B: Seated>(bench: &mut B, reply: &Reply)
-    ensures same { B.seats bench.new ≡ B.seats bench.old }
+    ensures told { IsTold (fate_told reply.now) (B.seats bench.old) (B.seats bench.new) }
 {
     if let Reply::Proposed {
         proposal,
@@ -114,7 +114,7 @@ pub fn schedule<M: Door, B: Seated>(
     ensures asked { IfOk result (λ done. AreAsked (next_call (Some part.old) (Request.Schedule moment) done.heard.bench) [] done.heard.answers) }
     ensures turns { IfOk result (λ done. length done.heard.bench ≡ turns_of (Some part.old) (Request.Schedule moment) done.heard.names) }
     ensures names { IfOk result (λ done. done.heard.names ≡ names_of (B.seats bench.old)) }
-    ensures becomes { IfOk result (λ done. Becomes done.heard.bench (dropped (Some part.old) (Request.Schedule moment) done.heard.names) (B.seats bench.old) (B.seats bench.new)) }
+    ensures becomes { IfOk result (λ done. Becomes (asked_at (Some part.old) (Request.Schedule moment)) (fate_told done.reply) done.heard.bench (dropped (Some part.old) (Request.Schedule moment) done.heard.names) (B.seats bench.old) (B.seats bench.new)) }
     ensures after { IfOk result (λ done. part.new ≡ changed_part part.old (Request.Schedule moment) done.reply done.heard) }
     ensures sents { IfOk result (λ done. done.sents ≡ term_sents part.old (Request.Schedule moment) done.reply done.heard) }
     ensures said { IfOk result (λ done. M.said door.new ≡ M.said door.old ++ done.heard.answers) }

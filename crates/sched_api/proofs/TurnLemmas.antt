@@ -9,9 +9,10 @@ use Rattle.std.proofs.lemmas.List.Elements.{All-map, All-push}
 use Rattle.std.proofs.Math.Seq.{split_at, map-set_same, drop-append-add, take-append-add}
 use Rattle.std.proofs.Math.Nat.{eq-or-lt_of_le}
 use Rattle.std.proofs.Math.ListN.{get_or-map}
+use Rattle.sched_api.specs.declared.scheduler.Fate.{Fate}
 use Rattle.sched_api.specs.declared.scheduler.Said.{Said}
 use Rattle.pd_types.specs.declared.proposal.Proposal.{Proposal}
-use Rattle.sched_api.specs.Benches.{seat_of, Seat, Seats, TakesTurn, SaysNothing, TakesOut, Drops, next_place, place_without, IsFirstPlace}
+use Rattle.sched_api.specs.Benches.{names_of, reach, seat_of, told, Seat, Seats, TakesTurn, Tells, TellsAt, TellsOne, SaysNothing, StaysLast, TakesOut, Drops, next_place, place_without, IsFirstPlace}
 use Rattle.sched_api.specs.Schedulers.{more_by_one}
 
 -- the turn goes to the one at the place
@@ -47,11 +48,11 @@ named_alike {X} xs f i x y here same =
     let name : Seat → List ℕ = λ (seat : Seat). seat.name in
     map-map name f (set xs i y) ∙ map-set_same (λ (z : X). name (f z)) xs i y x (subst (λ (z : X). name (f y) ≡ name (f z)) (sym here) same) ∙ sym (map-map name f xs)
 
-pub takes_turn : {X : Type 0} (xs : List X) (f : X → Seat) (i : ℕ) (x y : X) (said : Said) (before : List Said) →
+pub takes_turn : {X : Type 0} (xs : List X) (f : X → Seat) (i : ℕ) (last : Option ℕ) (x y : X) (now : ℕ) (said : Said) (before : List Said) →
     i < length xs → get_or xs i x ≡ x →
-    (f y).name ≡ (f x).name → (f y).asks ≡ more_by_one (f x).asks → said.name ≡ (f y).name → said.proposal ≡ (f y).last →
-    TakesTurn (record { list = map f xs; next = i; said = before }) (record { list = map f (set xs i y); next = next_place i (length xs); said = before ++ said ∷ [] }) said
-takes_turn {X} xs f i x y said before inside here named asks name answer =
+    (f y).name ≡ (f x).name → (f y).asks ≡ more_by_one (f x).asks → (f y).at ≡ now → (f y).heard ≡ None → said.name ≡ (f y).name → said.proposal ≡ (f y).last →
+    TakesTurn (record { list = map f xs; next = i; last = last; said = before }) (record { list = map f (set xs i y); next = next_place i (length xs); last = Some i; said = before ++ said ∷ [] }) now said
+takes_turn {X} xs f i last x y now said before inside here named asks at_now heard name answer =
     let l : List Seat = map f (take i xs) in
     let r : List Seat = map f (drop (suc i) xs) in
     let whole : map f xs ≡ l ++ f x ∷ r =
@@ -66,9 +67,13 @@ takes_turn {X} xs f i x y said before inside here named asks name answer =
       others = r ++ l;
       turn = rw whole (turn_at l r (f x) i at);
       passed = rw left (turn_behind l r (f y) i (length xs) at many);
+      here = omega (arith, inside, length-map xs f);
       place = map-set f xs i y;
       name = named;
       asks = asks;
+      at = at_now;
+      heard = heard;
+      last = refl;
       named = name;
       answer = answer;
       grown = refl;
@@ -76,19 +81,55 @@ takes_turn {X} xs f i x y said before inside here named asks name answer =
     }
 
 -- the one at the place was asked, and nothing was said
-pub asks_in_vain : {X : Type 0} (xs : List X) (f : X → Seat) (i : ℕ) (x y : X) (before : List Said) → get_or xs i x ≡ x → (f y).name ≡ (f x).name →
-    SaysNothing (record { list = map f xs; next = i; said = before }) (record { list = map f (set xs i y); next = i; said = before })
-asks_in_vain {X} xs f i x y before here same = record { asked = f y; others = map-set f xs i y; names = named_alike xs f i x y here same; next = refl; said = refl }
+pub asks_in_vain : {X : Type 0} (xs : List X) (f : X → Seat) (i : ℕ) (last : Option ℕ) (x y : X) (before : List Said) → get_or xs i x ≡ x → (f y).name ≡ (f x).name →
+    SaysNothing (record { list = map f xs; next = i; last = last; said = before }) (record { list = map f (set xs i y); next = i; last = last; said = before })
+asks_in_vain {X} xs f i last x y before here same = record { asked = f y; others = map-set f xs i y; names = named_alike xs f i x y here same; next = refl; last = refl; said = refl }
 
 -- nobody was asked
 pub asks_nobody : (seats : Seats) → SaysNothing seats seats
 asks_nobody seats =
-    let none : Seat = seat_of [] None 0 in
-    record { asked = get_or seats.list seats.next none; others = sym (set-get_or seats.list seats.next none); names = refl; next = refl; said = refl }
+    let none : Seat = seat_of [] None 0 0 None in
+    record { asked = get_or seats.list seats.next none; others = sym (set-get_or seats.list seats.next none); names = refl; next = refl; last = refl; said = refl }
 
--- what a call leaves of the one at a place is seen alike
-pub seen_alike : {X : Type 0} (xs : List X) (f : X → Seat) (i : ℕ) (x y : X) → get_or xs i x ≡ x → f y ≡ f x → map f (set xs i y) ≡ map f xs
-seen_alike {X} xs f i x y here same = map-set_same f xs i y x (subst (λ (z : X). f y ≡ f z) (sym here) same)
+-- the one at the place was told
+tells_at : {X : Type 0} (xs : List X) (f : X → Seat) (i next : ℕ) (x y : X) (fate : Fate) (said : List Said) → i < length xs → get_or xs i x ≡ x → f y ≡ told fate (f x) →
+    TellsAt i fate (record { list = map f xs; next = next; last = Some i; said = said }) (record { list = map f (set xs i y); next = next; last = Some i; said = said })
+tells_at {X} xs f i next x y fate said inside here is =
+    let l : List Seat = map f (take i xs) in
+    let r : List Seat = map f (drop (suc i) xs) in
+    let left : map f (set xs i y) ≡ l ++ told fate (f x) ∷ r =
+    ap (λ (all : List X). map f all) (set_split xs i y inside) ∙ map-append f (take i xs) (y ∷ drop (suc i) xs) ∙ ap (λ (seat : Seat). l ++ seat ∷ r) is in
+    record {
+      before = l;
+      one = f x;
+      behind = r;
+      at = length-map (take i xs) f ∙ length-take-le i xs (omega arith);
+      whole = ap (λ (all : List X). map f all) (subst (λ (z : X). xs ≡ take i xs ++ z ∷ drop (suc i) xs) here (split_at xs i x inside)) ∙ map-append f (take i xs) (x ∷ drop (suc i) xs);
+      told = ap (λ (all : List Seat). record { list = all; next = next; last = Some i; said = said }) left;
+    }
+
+-- the one asked last, which stands in the list
+pub tells_last : {X : Type 0} (xs : List X) (f : X → Seat) (last : Option ℕ) (i next : ℕ) (x y : X) (fate : Fate) (said : List Said) → last ≡ Some i → reach last ≤ length xs → get_or xs i x ≡ x → f y ≡ told fate (f x) →
+    TellsOne last fate (record { list = map f xs; next = next; last = last; said = said }) (record { list = map f (set xs i y); next = next; last = last; said = said })
+tells_last {X} xs f last i next x y fate said last_is within here is =
+    let low : i + 1 ≤ length xs = subst (λ (o : Option ℕ). reach o ≤ length xs) last_is within in
+    subst (λ (o : Option ℕ). TellsOne o fate (record { list = map f xs; next = next; last = o; said = said }) (record { list = map f (set xs i y); next = next; last = o; said = said })) (sym last_is)
+    (tells_at xs f i next x y fate said (omega (arith, low)) here is)
+
+-- of what is told the names stay, and what was said
+told_keeps : (last : Option ℕ) (fate : Fate) (old new : Seats) → TellsOne last fate old new → (new.said ≡ old.said) × (names_of new ≡ names_of old)
+told_keeps None fate old new same = (ap (λ (seats : Seats). seats.said) same, ap names_of same)
+told_keeps (Some place) fate old new tells =
+    let name : Seat → List ℕ = λ (seat : Seat). seat.name in
+    let alike : map name (tells.before ++ told fate tells.one ∷ tells.behind) ≡ map name (tells.before ++ tells.one ∷ tells.behind) =
+    map-append name tells.before (told fate tells.one ∷ tells.behind) ∙ sym (map-append name tells.before (tells.one ∷ tells.behind)) in
+    (ap (λ (seats : Seats). seats.said) tells.told, ap names_of tells.told ∙ alike ∙ sym (ap (map name) tells.whole))
+
+pub tells_said : (fate : Fate) (old new : Seats) → Tells fate old new → new.said ≡ old.said
+tells_said fate old new tells = (told_keeps old.last fate old new tells).0
+
+pub tells_names : (fate : Fate) (old new : Seats) → Tells fate old new → names_of new ≡ names_of old
+tells_names fate old new tells = (told_keeps old.last fate old new tells).1
 
 without_before : (k i n : ℕ) → k < i → place_without k i n ≡ i - 1
 without_before k i n h = grind (arith, nat_tests)
@@ -150,10 +191,10 @@ without_at l r one k i e (inl less) within =
     }
 without_at l r one k i e (inr more) within = without_past l r one k i e (eq-or-lt_of_le more) within
 
-pub drops : {X : Type 0} (xs : List X) (f : X → Seat) (k i : ℕ) (x : X) (wanted : List ℕ) (said : List Said) →
-    i ≤ length xs - 1 → x ≡ get_or xs k x → IsFirstPlace wanted (map f xs) (Some k) →
-    Drops wanted (record { list = map f xs; next = i; said = said }) (record { list = map f (remove xs k); next = place_without k i (length (remove xs k)); said = said })
-drops {X} xs f k i x wanted said within here first =
+pub drops : {X : Type 0} (xs : List X) (f : X → Seat) (k i : ℕ) (last left_last : Option ℕ) (x : X) (wanted : List ℕ) (said : List Said) →
+    i ≤ length xs - 1 → x ≡ get_or xs k x → IsFirstPlace wanted (map f xs) (Some k) → StaysLast k last left_last →
+    Drops wanted (record { list = map f xs; next = i; last = last; said = said }) (record { list = map f (remove xs k); next = place_without k i (length (remove xs k)); last = left_last; said = said })
+drops {X} xs f k i last left_last x wanted said within here first stays =
     let l : List Seat = map f (take k xs) in
     let r : List Seat = map f (drop (suc k) xs) in
     let inside : k < length xs = omega (arith, first.0, length-map xs f) in
@@ -168,11 +209,14 @@ drops {X} xs f k i x wanted said within here first =
       list = record { before = l; behind = r; whole = whole; left = left };
       first = subst (All (λ (other : Seat). other.name ≢ wanted)) (ap (λ (all : List Seat). take k all) whole ∙ take_at l (f x ∷ r) k at) first.2;
       turns = rw (whole, left, many) (without_at l r (f x) k i at (cases_lt i k) (let m = length-append l (f x ∷ r) in let n = sym (length-map xs f) ∙ ap (λ (all : List Seat). length all) whole in omega (arith, m, n, within, inside)));
+      last = subst (λ (gone : ℕ). StaysLast gone last left_last) (sym at) stays;
       said = refl;
     }
 
-pub same_seat : (name name' : List ℕ) (last last' : Option Proposal) (asks asks' : ℕ) → name ≡ name' → last ≡ last' → asks ≡ asks' → seat_of name last asks ≡ seat_of name' last' asks'
-same_seat name name' last last' asks asks' e f g = rw (e, f, g) refl
+-- a scheduler that was told this, and of which all else stays
+pub told_seat : (name name' : List ℕ) (last last' : Option Proposal) (asks asks' at at' : ℕ) (heard : Option Fate) (fate : Fate) → name ≡ name' → last ≡ last' → asks ≡ asks' → at ≡ at' → heard ≡ Some fate
+    → seat_of name last asks at heard ≡ seat_of name' last' asks' at' (Some fate)
+told_seat name name' last last' asks asks' at at' heard fate e f g h k = rw (e, f, g, h, k) refl
 
 -- no scheduler has the name, told of the schedulers or of their names
 pub none_named : (name : List ℕ) (list : List Seat) → All (λ (other : Seat). other.name ≢ name) list → All (λ (one : List ℕ). one ≢ name) (map (λ (seat : Seat). seat.name) list)
@@ -180,7 +224,7 @@ none_named name list all = All-map (λ (one : List ℕ). one ≢ name) (λ (seat
 
 pub one_named : (name : List ℕ) (list : List Seat) (place : ℕ) → IsFirstPlace name list (Some place) → All (λ (one : List ℕ). one ≢ name) (map (λ (seat : Seat). seat.name) list) → ⊥
 one_named name list place first all =
-    let d : Seat = seat_of [] None 0 in
+    let d : Seat = seat_of [] None 0 0 None in
     let inside : place < length (map (λ (seat : Seat). seat.name) list) = omega (arith, first.0, length-map list (λ (seat : Seat). seat.name)) in
     all place d.name inside (get_or-map (λ (seat : Seat). seat.name) list place d ∙ first.1 d)
 

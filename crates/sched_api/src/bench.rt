@@ -1,6 +1,6 @@
 // Schedulers that are asked in turn.
-ghost use Rattle.std.specs.Prelude.{◌≡◌, ◌↔◌, ◌≢◌, ◌≤◌, ◌<◌, ◌-◌, [], length, map, IfOk, IfSome, IfNone, OnOk, OnErr, IsNone, IsErr, All, slice_get, Some, ℕ, List, IsTrue};
-ghost use Rattle.sched_api.specs.Benches.{Seat, Seats, TakesTurn, SaysNothing, Drops, names_of, seat_of, next_place, place_without, IsFirstPlace};
+ghost use Rattle.std.specs.Prelude.{◌≡◌, ◌↔◌, ◌≢◌, ◌≤◌, ◌<◌, ◌-◌, [], length, map, IfOk, IfSome, IfNone, OnOk, OnErr, IsNone, IsErr, All, slice_get, Some, None, ℕ, List, IsTrue};
+ghost use Rattle.sched_api.specs.Benches.{Seat, Seats, TakesTurn, SaysNothing, StaysLast, Tells, Drops, names_of, reach, seat_of, next_place, place_without, IsFirstPlace};
 ghost use Rattle.sched_api.specs.Schedulers.{more_by_one};
 
 use crate::{Absent, Fate, Said, Scheduler};
@@ -20,20 +20,22 @@ pub struct Bench {
     said: Vec<Said>,
     alloc: Global,
     ghost in_turn: { next ≤ length schedulers.items - 1 },
+    ghost in_list: { reach last ≤ length schedulers.items },
 }
 
 /// Schedulers that are asked in turn. Contracts see each by its own meanings, in the order of the list,
-/// the place of the next in turn, and all that was said. Who asks a bench is generic in it: a function
-/// of another crate that takes boxed schedulers counts as one that may make some.
+/// the places of the next in turn and of the one asked last, and all that was said. Who asks a bench is
+/// generic in it: a function of another crate that takes boxed schedulers counts as one that may make
+/// some.
 pub trait Seated {
     ghost use Rattle.std.specs.Prelude.{◌≡◌, ◌↔◌, ◌≢◌, [], All, IfNone, IfOk, IfSome, IsErr, IsNone, List, OnErr, OnOk, ℕ};
-    ghost use Rattle.sched_api.specs.Benches.{Drops, SaysNothing, Seats, TakesTurn, names_of};
+    ghost use Rattle.sched_api.specs.Benches.{Drops, SaysNothing, Seats, TakesTurn, Tells, names_of};
 
     ghost seats: { Self → Seats };
 
     /// Asks the scheduler whose turn it is, and says its answer under its name. None comes exactly
-    /// from a bench without schedulers. Want of memory leaves the names, the turn and what was said;
-    /// the scheduler may have been asked.
+    /// from a bench without schedulers. Want of memory leaves the names, the turn, who is told and what
+    /// was said; the scheduler may have been asked.
     fn run_next(
         &mut self,
         stores: &Stores,
@@ -42,7 +44,7 @@ pub trait Seated {
         busy: &Ids,
         now: u64,
     ) -> Result<Option<Said>, NoMemory>
-        ensures turn { IfOk result (λ said. IfSome said (TakesTurn (seats self.old) (seats self.new))) }
+        ensures turn { IfOk result (λ said. IfSome said (TakesTurn (seats self.old) (seats self.new) now)) }
         ensures none { IfOk result (λ said. IsNone said ↔ ((seats self.old).list ≡ [])) }
         ensures empty { IfOk result (λ said. IfNone said (seats self.new ≡ seats self.old)) }
         ensures err { OnErr result (SaysNothing (seats self.old) (seats self.new)) };
@@ -50,7 +52,7 @@ pub trait Seated {
     /// Tells the scheduler that was asked last what became of its proposal. Nobody is told where it
     /// was removed, or where none was asked.
     fn tell_last(&mut self, fate: Fate)
-        ensures same { seats self.new ≡ seats self.old };
+        ensures tells { Tells fate (seats self.old) (seats self.new) };
 
     /// Drops the first scheduler of this name. The one whose turn is next stays the next; where it is
     /// the one dropped, the one after it is.
@@ -69,8 +71,9 @@ impl Seated for Bench {
     ghost use Rattle.sched_api.specs.Benches.{seat_of};
 
     ghost seats = { λ bench. record {
-      list = map (λ one. seat_of ((Scheduler-box one).name one.value) ((Scheduler-box one).last one.value) ((Scheduler-box one).asks one.value)) bench.schedulers.items;
+      list = map (λ one. seat_of ((Scheduler-box one).name one.value) ((Scheduler-box one).last one.value) ((Scheduler-box one).asks one.value) ((Scheduler-box one).at one.value) ((Scheduler-box one).heard one.value)) bench.schedulers.items;
       next = bench.next;
+      last = bench.last;
       said = bench.said.items;
     } };
 
@@ -111,6 +114,8 @@ fn ask(
     ensures named { IfOk result (λ said. said.name ≡ name one.new) }
     ensures answer { IfOk result (λ said. said.proposal ≡ last one.new) }
     ensures asks { OnOk result (asks one.new ≡ more_by_one (asks one.old)) }
+    ensures at { OnOk result (at one.new ≡ now) }
+    ensures heard { OnOk result (heard one.new ≡ None) }
     ensures name { name one.new ≡ name one.old }
 {
     let name = one.name().copy(alloc)?;
@@ -120,9 +125,11 @@ fn ask(
 
 // Tells a scheduler what became of its last proposal.
 fn tell(one: &mut Box<dyn Scheduler + Send>, fate: Fate)
+    ensures heard { heard one.new ≡ Some fate }
     ensures name { name one.new ≡ name one.old }
     ensures last { last one.new ≡ last one.old }
     ensures asks { asks one.new ≡ asks one.old }
+    ensures at { at one.new ≡ at one.old }
 {
     one.note(fate);
 }
@@ -136,7 +143,7 @@ fn is_named(one: &Box<dyn Scheduler + Send>, wanted: &[u8]) -> bool
 
 // The place of the first scheduler of this name.
 fn place_of(schedulers: &[Box<dyn Scheduler + Send>], wanted: &[u8]) -> Option<usize>
-    ensures { IsFirstPlace wanted.now (map (λ one. seat_of ((Scheduler-box one).name one.value) ((Scheduler-box one).last one.value) ((Scheduler-box one).asks one.value)) schedulers.now) result }
+    ensures { IsFirstPlace wanted.now (map (λ one. seat_of ((Scheduler-box one).name one.value) ((Scheduler-box one).last one.value) ((Scheduler-box one).asks one.value) ((Scheduler-box one).at one.value) ((Scheduler-box one).heard one.value)) schedulers.now) result }
 {
     for (place, one) in schedulers.iter().enumerate() {
         if is_named(one, wanted) {
@@ -168,7 +175,9 @@ fn next_without(gone: usize, next: usize, len: usize) -> usize
 }
 
 // The place of the scheduler that was asked last, once another is gone.
-fn last_without(gone: usize, last: Option<usize>) -> Option<usize> {
+fn last_without(gone: usize, last: Option<usize>) -> Option<usize>
+    ensures { StaysLast gone last result }
+{
     match last {
         Some(place) if gone < place => Some(place - 1),
         Some(place) if place < gone => Some(place),
@@ -181,6 +190,7 @@ impl Bench {
     pub fn empty(alloc: Global) -> Bench
         ensures list { (⟦<Bench as Seated>⟧.seats result).list ≡ [] }
         ensures next { (⟦<Bench as Seated>⟧.seats result).next ≡ 0 }
+        ensures last { (⟦<Bench as Seated>⟧.seats result).last ≡ None }
         ensures said { (⟦<Bench as Seated>⟧.seats result).said ≡ [] }
     {
         Bench::of(alloc, Vec::new(alloc))
@@ -188,8 +198,9 @@ impl Bench {
 
     /// A bench of these schedulers, of which the first is the next in turn. It takes no memory.
     pub fn of(alloc: Global, list: Vec<Box<dyn Scheduler + Send>>) -> Bench
-        ensures list { (⟦<Bench as Seated>⟧.seats result).list ≡ map (λ one. seat_of ((Scheduler-box one).name one.value) ((Scheduler-box one).last one.value) ((Scheduler-box one).asks one.value)) list.items }
+        ensures list { (⟦<Bench as Seated>⟧.seats result).list ≡ map (λ one. seat_of ((Scheduler-box one).name one.value) ((Scheduler-box one).last one.value) ((Scheduler-box one).asks one.value) ((Scheduler-box one).at one.value) ((Scheduler-box one).heard one.value)) list.items }
         ensures next { (⟦<Bench as Seated>⟧.seats result).next ≡ 0 }
+        ensures last { (⟦<Bench as Seated>⟧.seats result).last ≡ None }
         ensures said { (⟦<Bench as Seated>⟧.seats result).said ≡ [] }
     {
         Bench {
@@ -202,8 +213,8 @@ impl Bench {
     }
 
     /// Asks the scheduler whose turn it is, and says its answer under its name. None comes exactly
-    /// from a bench without schedulers. Want of memory leaves the names, the turn and what was said;
-    /// the scheduler may have been asked.
+    /// from a bench without schedulers. Want of memory leaves the names, the turn, who is told and what
+    /// was said; the scheduler may have been asked.
     pub fn run_next(
         &mut self,
         stores: &Stores,
@@ -212,7 +223,7 @@ impl Bench {
         busy: &Ids,
         now: u64,
     ) -> Result<Option<Said>, NoMemory>
-        ensures turn { IfOk result (λ said. IfSome said (TakesTurn (⟦<Bench as Seated>⟧.seats self.old) (⟦<Bench as Seated>⟧.seats self.new))) }
+        ensures turn { IfOk result (λ said. IfSome said (TakesTurn (⟦<Bench as Seated>⟧.seats self.old) (⟦<Bench as Seated>⟧.seats self.new) now)) }
         ensures none { IfOk result (λ said. IsNone said ↔ ((⟦<Bench as Seated>⟧.seats self.old).list ≡ [])) }
         ensures empty { IfOk result (λ said. IfNone said (⟦<Bench as Seated>⟧.seats self.new ≡ ⟦<Bench as Seated>⟧.seats self.old)) }
         ensures err { OnErr result (SaysNothing (⟦<Bench as Seated>⟧.seats self.old) (⟦<Bench as Seated>⟧.seats self.new)) }
@@ -242,12 +253,9 @@ impl Bench {
     /// Tells the scheduler that was asked last what became of its proposal. Nobody is told where it
     /// was removed, or where none was asked.
     pub fn tell_last(&mut self, fate: Fate)
-        ensures same { ⟦<Bench as Seated>⟧.seats self.new ≡ ⟦<Bench as Seated>⟧.seats self.old }
+        ensures tells { Tells fate (⟦<Bench as Seated>⟧.seats self.old) (⟦<Bench as Seated>⟧.seats self.new) }
     {
-        let Some(place) = self.last else {
-            return;
-        };
-        if place < self.schedulers.len() {
+        if let Some(place) = self.last {
             tell(&mut self.schedulers[place], fate);
         }
     }

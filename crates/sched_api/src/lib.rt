@@ -8,5 +8,8 @@ mod scheduler;
 mod tests;
 
 pub use bench::{Bench, Seated};
-pub use laws::{each_ask_is_counted, the_first_of_a_name_goes, turns_go_round_the_list};
+pub use laws::{
+    a_removal_leaves_who_was_asked_last, each_ask_is_counted, the_first_of_a_name_goes,
+    the_one_asked_last_is_told, turns_go_round_the_list,
+};
 pub use scheduler::{Absent, BenchSaid, Fate, Said, Scheduler};

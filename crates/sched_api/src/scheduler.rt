@@ -1,5 +1,5 @@
 // What a scheduler is asked and told.
-ghost use Rattle.std.specs.Prelude.{◌≡◌, ℕ, List, Option, IfOk};
+ghost use Rattle.std.specs.Prelude.{◌≡◌, ℕ, List, Option, Some, None, IfOk};
 ghost use Rattle.pd_types.specs.declared.proposal.Proposal.{Proposal};
 ghost use Rattle.sched_api.specs.Schedulers.{more_by_one};
 
@@ -46,9 +46,10 @@ impl Duplicate for Said {
 /// Proposes moves of peers and leaders (PD documentation, "Scheduling"). It may be anyone's: nothing
 /// is believed of what it proposes, which is built as a wish and passes every test of one.
 pub trait Scheduler: Drop {
-    ghost use Rattle.std.specs.Prelude.{◌≡◌, ℕ, List, Option, IfOk};
+    ghost use Rattle.std.specs.Prelude.{◌≡◌, ℕ, List, Option, Some, None, IfOk};
     ghost use Rattle.pd_types.specs.declared.proposal.Proposal.{Proposal};
     ghost use Rattle.sched_api.specs.Schedulers.{more_by_one};
+    ghost use Rattle.sched_api.specs.declared.scheduler.Fate.{Fate};
 
     /// Its name.
     ghost name: { Self → List ℕ };
@@ -58,6 +59,12 @@ pub trait Scheduler: Drop {
 
     /// How often it was asked, up to the greatest u64.
     ghost asks: { Self → ℕ };
+
+    /// The clock that it was last asked with, in milliseconds since the epoch.
+    ghost at: { Self → ℕ };
+
+    /// What it was told of its last proposal. None until it is told.
+    ghost heard: { Self → Option Fate };
 
     /// Its name, by which pd-ctl shows and removes it.
     fn name(&self) -> &Text
@@ -75,11 +82,15 @@ pub trait Scheduler: Drop {
     ) -> Result<Option<Proposal>, NoMemory>
         ensures answer { IfOk result (λ proposal. proposal ≡ last self.new) }
         ensures asks { asks self.new ≡ more_by_one (asks self.old) }
+        ensures at { at self.new ≡ now }
+        ensures heard { heard self.new ≡ None }
         ensures name { name self.new ≡ name self.old };
 
     /// Hears what became of its last proposal.
     fn note(&mut self, fate: Fate)
+        ensures heard { heard self.new ≡ Some fate }
         ensures name { name self.new ≡ name self.old }
         ensures last { last self.new ≡ last self.old }
-        ensures asks { asks self.new ≡ asks self.old };
+        ensures asks { asks self.new ≡ asks self.old }
+        ensures at { at self.new ≡ at self.old };
 }

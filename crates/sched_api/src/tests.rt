@@ -14,6 +14,8 @@ struct Steady {
     region: u64,
     last: Option<Proposal>,
     asks: u64,
+    at: u64,
+    heard: Option<Fate>,
 }
 
 impl Scheduler for Steady {
@@ -22,6 +24,10 @@ impl Scheduler for Steady {
     ghost last = { λ s. s.last };
 
     ghost asks = { λ s. s.asks };
+
+    ghost at = { λ s. s.at };
+
+    ghost heard = { λ s. s.heard };
 
     fn name(&self) -> &Text {
         &self.name
@@ -36,12 +42,15 @@ impl Scheduler for Steady {
         now: u64,
     ) -> Result<Option<Proposal>, NoMemory> {
         self.asks = self.asks.saturating_add(1);
+        self.at = now;
+        self.heard = None;
         let region = self.region;
         self.last = Some(Proposal::MoveLeader { region, to: now });
         Ok(self.last)
     }
 
     fn note(&mut self, fate: Fate) {
+        self.heard = Some(fate);
         match fate {
             Fate::Added(region) => self.region = region.saturating_add(1),
             Fate::Refused => {}
@@ -55,6 +64,8 @@ fn make_steady(alloc: Global, name: &str, region: u64) -> Result<Steady, Fail> {
         region,
         last: None,
         asks: 0,
+        at: 0,
+        heard: None,
     })
 }
 
@@ -63,6 +74,8 @@ fn make_steady(alloc: Global, name: &str, region: u64) -> Result<Steady, Fail> {
 struct Needy {
     name: Text,
     asks: u64,
+    at: u64,
+    heard: Option<Fate>,
 }
 
 impl Scheduler for Needy {
@@ -74,6 +87,10 @@ impl Scheduler for Needy {
 
     ghost asks = { λ s. s.asks };
 
+    ghost at = { λ s. s.at };
+
+    ghost heard = { λ s. s.heard };
+
     fn name(&self) -> &Text {
         &self.name
     }
@@ -84,13 +101,17 @@ impl Scheduler for Needy {
         _standing: &Standing,
         _rules: &RuleSet,
         _busy: &Ids,
-        _now: u64,
+        now: u64,
     ) -> Result<Option<Proposal>, NoMemory> {
         self.asks = self.asks.saturating_add(1);
+        self.at = now;
+        self.heard = None;
         Err(NoMemory)
     }
 
-    fn note(&mut self, _fate: Fate) {}
+    fn note(&mut self, fate: Fate) {
+        self.heard = Some(fate);
+    }
 }
 
 /// What a scheduler is asked over: no stores, no regions, the default rule.
@@ -250,9 +271,14 @@ fn the_first_of_a_name_is_removed(rt: HostRuntime) -> Result<(), Fail> {
 fn want_of_memory_takes_no_turn(rt: HostRuntime) -> Result<(), Fail> {
     let alloc = rt.alloc();
     let world = empty_world(alloc)?;
-    let name = Text::of(String::from_str(alloc, "a")?);
+    let needy = Needy {
+        name: Text::of(String::from_str(alloc, "a")?),
+        asks: 0,
+        at: 0,
+        heard: None,
+    };
     let mut list: Vec<Box<dyn Scheduler + Send>> = Vec::new(alloc);
-    list.push(Box::new(alloc, Needy { name, asks: 0 })?)?;
+    list.push(Box::new(alloc, needy)?)?;
     list.push(Box::new(alloc, make_steady(alloc, "b", 2)?)?)?;
     let mut bench = Bench::of(alloc, list);
     for _ in 0..2 {

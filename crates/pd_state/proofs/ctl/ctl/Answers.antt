@@ -6,7 +6,7 @@ use Rattle.pd_state.specs.Legal.{first_reply, sents_by}
 use Rattle.pd_state.specs.Steps.{stepped}
 use Rattle.pd_state.specs.declared.heard.Heard.{Heard}
 use Rattle.pd_state.specs.declared.part.Part.{Part}
-use Rattle.pd_state.proofs.Alone.{stays_so}
+use Rattle.pd_state.proofs.Alone.{keeps_so}
 use Rattle.pd_state.proofs.Obeyed.{obeyed_after, obeyed_asked, obeyed_reply, obeyed_said, obeyed_sents, obeyed_told}
 use Rattle.pd_state.proofs.Removals.{absent_asked, ctl_becomes, ctl_names, no_value}
 use Rattle.pd_state.proofs.ctl.ctl.Goals as goal
@@ -30,7 +30,7 @@ returns-in_default-clause-names g c =
 
 pub returns-in_default-clause-becomes : goal.returns-in_default-clause-becomes
 returns-in_default-clause-becomes g c =
-    stays_so [] _ _ refl (ap (λ (p : Option Part). dropped p (ask.Ctl c.args.moment c.args.words.now) c.with_names.result.heard.names) (no_value c.args.part.now c.in_default.not-Some))
+    keeps_so _ _ (ap (λ (p : Option Part). dropped p (ask.Ctl c.args.moment c.args.words.now) c.with_names.result.heard.names) (no_value c.args.part.now c.in_default.not-Some))
 
 pub returns-in_default-clause-after : goal.returns-in_default-clause-after
 returns-in_default-clause-after g c =

@@ -1,7 +1,9 @@
+use Rattle.std.proofs.Common.{ap}
 use Rattle.pd_state.specs.Scheduling.{schedule_of}
 use Rattle.pd_state.specs.declared.heard.Done.{Done}
+use Rattle.pd_state.specs.declared.part.Part.{Part}
 use Rattle.pd_state.proofs.Carried.{asked_is, reply_is, sents_is}
-use Rattle.pd_state.proofs.Scheduled.{after_turn, turn_counts, turn_does}
+use Rattle.pd_state.proofs.Scheduled.{after_turn, turn_becomes, turn_counts, turn_does}
 use Rattle.pd_state.proofs.scheduling.schedule.Goals as goal
 
 pub returns-clause-reply : goal.returns-clause-reply
@@ -23,7 +25,11 @@ returns-clause-asked g c =
     c.advance.ensures.value c.in_ok-bench.ensures.value c.in_ok-reply.ensures.does)
 
 pub returns-clause-turns : goal.returns-clause-turns
-returns-clause-turns g c = turn_counts _ _ c.in_ok-asked.asked c.in-Some.said c.in_ok-bench.bench c.in_ok-names.names c.in-Some.is c.in_ok-asked.ensures.turn c.in_ok-bench.ensures.value c.in_ok-names.ensures.value
+returns-clause-turns g c = turn_counts _ _ _ c.in_ok-asked.asked c.in-Some.said c.in_ok-bench.bench c.in_ok-names.names c.in-Some.is c.in_ok-asked.ensures.turn c.in_ok-bench.ensures.value c.in_ok-names.ensures.value
+
+pub returns-clause-becomes : goal.returns-clause-becomes
+returns-clause-becomes g c =
+    turn_becomes c.args.part.now c.args.moment c.advance.new.self.clock c.in_ok-reply.field-0.reply c.in_ok-asked.asked c.in-Some.said c.in_ok-bench.bench c.in_ok-names.names _ _ _ c.in-Some.is (ap (λ (p : Part). p.clock) c.advance.ensures.value) c.in_ok-bench.ensures.value c.in_ok-asked.ensures.turn c.tell.ensures.told
 
 pub returns-clause-after : goal.returns-clause-after
 returns-clause-after g c =

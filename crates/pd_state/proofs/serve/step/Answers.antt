@@ -62,7 +62,7 @@ pub returns-in-Retire-clause-names : goal.returns-in-Retire-clause-names
 returns-in-Retire-clause-names g c = names_alone c.args.part.now c.args.request.now _ c.in-Retire.is refl _ c.quiet.result.heard c.quiet.ensures.alone
 
 pub returns-in-Retire-clause-becomes : goal.returns-in-Retire-clause-becomes
-returns-in-Retire-clause-becomes g c = bench_alone c.args.part.now c.args.request.now _ c.in-Retire.is refl _ c.quiet.result.heard c.quiet.ensures.alone
+returns-in-Retire-clause-becomes g c = bench_alone c.args.part.now c.args.request.now _ c.in-Retire.is refl c.quiet.result.reply _ c.quiet.result.heard c.quiet.ensures.alone
 
 pub returns-in-Some-clause-turns : goal.returns-in-Some-clause-turns
 returns-in-Some-clause-turns g c = turns_ok c.args.part.now c.args.request.now _ c.in-Hello.is refl c.hello.result c.hello.ensures.alone
@@ -80,7 +80,7 @@ pub returns-in-None-clause-names : goal.returns-in-None-clause-names
 returns-in-None-clause-names g c = names_alone c.args.part.now c.args.request.now _ c.in-Hello.is refl _ c.quiet-in-None.result.heard c.quiet-in-None.ensures.alone
 
 pub returns-in-None-clause-becomes : goal.returns-in-None-clause-becomes
-returns-in-None-clause-becomes g c = bench_alone c.args.part.now c.args.request.now _ c.in-Hello.is refl _ c.quiet-in-None.result.heard c.quiet-in-None.ensures.alone
+returns-in-None-clause-becomes g c = bench_alone c.args.part.now c.args.request.now _ c.in-Hello.is refl c.quiet-in-None.result.reply _ c.quiet-in-None.result.heard c.quiet-in-None.ensures.alone
 
 pub returns-in-Some-part-clause-turns : goal.returns-in-Some-part-clause-turns
 returns-in-Some-part-clause-turns g c = turns_alone c.args.part.now c.args.request.now _ c.in-Alive.is refl c.quiet-in-Some-part.result.heard c.quiet-in-Some-part.ensures.alone
@@ -89,7 +89,7 @@ pub returns-in-Some-part-clause-names : goal.returns-in-Some-part-clause-names
 returns-in-Some-part-clause-names g c = names_alone c.args.part.now c.args.request.now _ c.in-Alive.is refl _ c.quiet-in-Some-part.result.heard c.quiet-in-Some-part.ensures.alone
 
 pub returns-in-Some-part-clause-becomes : goal.returns-in-Some-part-clause-becomes
-returns-in-Some-part-clause-becomes g c = bench_alone c.args.part.now c.args.request.now _ c.in-Alive.is refl _ c.quiet-in-Some-part.result.heard c.quiet-in-Some-part.ensures.alone
+returns-in-Some-part-clause-becomes g c = bench_alone c.args.part.now c.args.request.now _ c.in-Alive.is refl c.quiet-in-Some-part.result.reply _ c.quiet-in-Some-part.result.heard c.quiet-in-Some-part.ensures.alone
 
 pub returns-in-None-part-clause-turns : goal.returns-in-None-part-clause-turns
 returns-in-None-part-clause-turns g c = turns_alone c.args.part.now c.args.request.now _ c.in-Alive.is refl c.quiet-in-None-part.result.heard c.quiet-in-None-part.ensures.alone
@@ -98,7 +98,7 @@ pub returns-in-None-part-clause-names : goal.returns-in-None-part-clause-names
 returns-in-None-part-clause-names g c = names_alone c.args.part.now c.args.request.now _ c.in-Alive.is refl _ c.quiet-in-None-part.result.heard c.quiet-in-None-part.ensures.alone
 
 pub returns-in-None-part-clause-becomes : goal.returns-in-None-part-clause-becomes
-returns-in-None-part-clause-becomes g c = bench_alone c.args.part.now c.args.request.now _ c.in-Alive.is refl _ c.quiet-in-None-part.result.heard c.quiet-in-None-part.ensures.alone
+returns-in-None-part-clause-becomes g c = bench_alone c.args.part.now c.args.request.now _ c.in-Alive.is refl c.quiet-in-None-part.result.reply _ c.quiet-in-None-part.result.heard c.quiet-in-None-part.ensures.alone
 
 pub returns-in-Some-part-2-clause-turns : goal.returns-in-Some-part-2-clause-turns
 returns-in-Some-part-2-clause-turns g c = turns_ok c.args.part.now c.args.request.now _ c.in-Rule.is refl c.rule.result c.rule.ensures.alone
@@ -116,7 +116,7 @@ pub returns-in-None-part-2-clause-names : goal.returns-in-None-part-2-clause-nam
 returns-in-None-part-2-clause-names g c = names_alone c.args.part.now c.args.request.now _ c.in-Rule.is refl _ c.quiet-in-None-part-2.result.heard c.quiet-in-None-part-2.ensures.alone
 
 pub returns-in-None-part-2-clause-becomes : goal.returns-in-None-part-2-clause-becomes
-returns-in-None-part-2-clause-becomes g c = bench_alone c.args.part.now c.args.request.now _ c.in-Rule.is refl _ c.quiet-in-None-part-2.result.heard c.quiet-in-None-part-2.ensures.alone
+returns-in-None-part-2-clause-becomes g c = bench_alone c.args.part.now c.args.request.now _ c.in-Rule.is refl c.quiet-in-None-part-2.result.reply _ c.quiet-in-None-part-2.result.heard c.quiet-in-None-part-2.ensures.alone
 
 pub returns-in-Some-part-3-clause-turns : goal.returns-in-Some-part-3-clause-turns
 returns-in-Some-part-3-clause-turns g c = turns_ok c.args.part.now c.args.request.now _ c.in-Unrule.is refl c.unrule.result c.unrule.ensures.alone
@@ -134,7 +134,7 @@ pub returns-in-None-part-3-clause-names : goal.returns-in-None-part-3-clause-nam
 returns-in-None-part-3-clause-names g c = names_alone c.args.part.now c.args.request.now _ c.in-Unrule.is refl _ c.quiet-in-None-part-3.result.heard c.quiet-in-None-part-3.ensures.alone
 
 pub returns-in-None-part-3-clause-becomes : goal.returns-in-None-part-3-clause-becomes
-returns-in-None-part-3-clause-becomes g c = bench_alone c.args.part.now c.args.request.now _ c.in-Unrule.is refl _ c.quiet-in-None-part-3.result.heard c.quiet-in-None-part-3.ensures.alone
+returns-in-None-part-3-clause-becomes g c = bench_alone c.args.part.now c.args.request.now _ c.in-Unrule.is refl c.quiet-in-None-part-3.result.reply _ c.quiet-in-None-part-3.result.heard c.quiet-in-None-part-3.ensures.alone
 
 pub returns-in-Some-part-4-clause-turns : goal.returns-in-Some-part-4-clause-turns
 returns-in-Some-part-4-clause-turns g c = turns_ok c.args.part.now c.args.request.now _ c.in-Beat.is refl c.beat.result c.beat.ensures.alone
@@ -152,7 +152,7 @@ pub returns-in-None-part-4-clause-names : goal.returns-in-None-part-4-clause-nam
 returns-in-None-part-4-clause-names g c = names_alone c.args.part.now c.args.request.now _ c.in-Beat.is refl _ c.quiet-in-None-part-4.result.heard c.quiet-in-None-part-4.ensures.alone
 
 pub returns-in-None-part-4-clause-becomes : goal.returns-in-None-part-4-clause-becomes
-returns-in-None-part-4-clause-becomes g c = bench_alone c.args.part.now c.args.request.now _ c.in-Beat.is refl _ c.quiet-in-None-part-4.result.heard c.quiet-in-None-part-4.ensures.alone
+returns-in-None-part-4-clause-becomes g c = bench_alone c.args.part.now c.args.request.now _ c.in-Beat.is refl c.quiet-in-None-part-4.result.reply _ c.quiet-in-None-part-4.result.heard c.quiet-in-None-part-4.ensures.alone
 
 pub returns-in-Some-part-5-clause-turns : goal.returns-in-Some-part-5-clause-turns
 returns-in-Some-part-5-clause-turns g c = turns_ok c.args.part.now c.args.request.now _ c.in-Check.is refl c.check_region.result c.check_region.ensures.alone
@@ -170,7 +170,7 @@ pub returns-in-None-part-5-clause-names : goal.returns-in-None-part-5-clause-nam
 returns-in-None-part-5-clause-names g c = names_alone c.args.part.now c.args.request.now _ c.in-Check.is refl _ c.quiet-in-None-part-5.result.heard c.quiet-in-None-part-5.ensures.alone
 
 pub returns-in-None-part-5-clause-becomes : goal.returns-in-None-part-5-clause-becomes
-returns-in-None-part-5-clause-becomes g c = bench_alone c.args.part.now c.args.request.now _ c.in-Check.is refl _ c.quiet-in-None-part-5.result.heard c.quiet-in-None-part-5.ensures.alone
+returns-in-None-part-5-clause-becomes g c = bench_alone c.args.part.now c.args.request.now _ c.in-Check.is refl c.quiet-in-None-part-5.result.reply _ c.quiet-in-None-part-5.result.heard c.quiet-in-None-part-5.ensures.alone
 
 pub returns-in-Some-part-6-clause-turns : goal.returns-in-Some-part-6-clause-turns
 returns-in-Some-part-6-clause-turns g c = turns_ok c.args.part.now c.args.request.now _ c.in-Patrol.is refl c.patrol.result c.patrol.ensures.alone
@@ -188,7 +188,7 @@ pub returns-in-None-part-6-clause-names : goal.returns-in-None-part-6-clause-nam
 returns-in-None-part-6-clause-names g c = names_alone c.args.part.now c.args.request.now _ c.in-Patrol.is refl _ c.quiet-in-None-part-6.result.heard c.quiet-in-None-part-6.ensures.alone
 
 pub returns-in-None-part-6-clause-becomes : goal.returns-in-None-part-6-clause-becomes
-returns-in-None-part-6-clause-becomes g c = bench_alone c.args.part.now c.args.request.now _ c.in-Patrol.is refl _ c.quiet-in-None-part-6.result.heard c.quiet-in-None-part-6.ensures.alone
+returns-in-None-part-6-clause-becomes g c = bench_alone c.args.part.now c.args.request.now _ c.in-Patrol.is refl c.quiet-in-None-part-6.result.reply _ c.quiet-in-None-part-6.result.heard c.quiet-in-None-part-6.ensures.alone
 
 -- and by a turn and a command
 
@@ -214,7 +214,7 @@ pub returns-in_ok-names-in-None-part-7-clause-names : goal.returns-in_ok-names-i
 returns-in_ok-names-in-None-part-7-clause-names g c = names_scheduled c.args.request.now c.in-Schedule.moment _ c.with_names.result.heard.names c.in-Schedule.is (ap (λ (h : Heard). h.names) c.with_names.ensures.heard ∙ c.in_ok-names-in-None-part-7.ensures.value)
 
 pub returns-in_ok-names-in-None-part-7-clause-becomes : goal.returns-in_ok-names-in-None-part-7-clause-becomes
-returns-in_ok-names-in-None-part-7-clause-becomes g c = absent_bench c.args.part.now c.args.request.now (ask.Schedule c.in-Schedule.moment) c.with_names.result.heard _ c.in-None-part-7.is c.in-Schedule.is c.with_names.ensures.heard _
+returns-in_ok-names-in-None-part-7-clause-becomes g c = absent_bench c.args.part.now c.args.request.now (ask.Schedule c.in-Schedule.moment) c.with_names.result.heard _ c.in-None-part-7.is c.in-Schedule.is c.with_names.ensures.heard c.with_names.result.reply _
 
 pub returns-in-Ctl-clause-asked : goal.returns-in-Ctl-clause-asked
 returns-in-Ctl-clause-asked g c = ctl_asks c.args.part.now c.args.request.now c.in-Ctl.moment c.in-Ctl.words c.ctl.result c.in-Ctl.is c.ctl.ensures.asked
