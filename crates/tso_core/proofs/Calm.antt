@@ -12,7 +12,7 @@ use Rattle.tso_model.specs.declared.step.WordStep.TheVariants.{LoadCell, ClaimTe
 use Rattle.tso_model.specs.Words.{passes}
 use Rattle.tso_model.specs.Steps.{held, hand, refused, view_after}
 use Rattle.tso_model.proofs.Basics.{by_bool}
-use Rattle.tso_core.specs.declared.plan.Decided.{Decided}
+use Rattle.tso_core.specs.declared.turn.Decided.{Decided}
 use Rattle.tso_core.specs.declared.turn.Turn.{Turn}
 use Rattle.tso_core.specs.declared.reply.Kind.{Kind}
 use Rattle.tso_core.specs.declared.reply.Kind.TheVariants.{Read, Campaign, Save, Probe, Raise, Publish, Resign, Look, Arm, Draw}

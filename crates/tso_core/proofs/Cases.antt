@@ -11,7 +11,7 @@ use Rattle.tso_model.specs.declared.view.View.{View}
 use Rattle.tso_model.specs.Plan.{end_of, past_clock, lead_next}
 use Rattle.tso_model.specs.Steps.{held, fresh}
 use Rattle.tso_model.proofs.Basics.{by_eq, by_lt}
-use Rattle.tso_core.specs.declared.plan.Decided.{Decided}
+use Rattle.tso_core.specs.declared.turn.Decided.{Decided}
 use Rattle.tso_core.specs.declared.reply.Due.TheVariants.{Campaign, Save, Raise}
 use Rattle.tso_core.specs.declared.reply.Kind.{Kind}
 use Rattle.tso_core.specs.declared.reply.Kind.TheVariants.{Raise as ToRaise, Publish as ToPublish}

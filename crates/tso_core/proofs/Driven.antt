@@ -14,13 +14,12 @@ use Rattle.tso_model.proofs.CellA.{no_some}
 use Rattle.tso_core.specs.declared.turn.Turn.{Turn}
 use Rattle.tso_core.specs.declared.reply.Due.{Due}
 use Rattle.tso_core.specs.declared.reply.Due.TheVariants.{Rest, Campaign, Save, Raise, Publish, Arm, Draw}
-use Rattle.tso_core.specs.Done.{step_due}
 use Rattle.tso_core.specs.declared.reply.Reply.TheVariants.{Claimed, Beaten, Saved, Lost, NotLeading, Resigned}
 use Rattle.tso_core.specs.Due.{at_rest}
 use Rattle.tso_model.specs.declared.plan.TheConstants.{AHEAD_MS}
 use Rattle.tso_model.specs.Plan.{end_of, lead_next, tick_next}
 use Rattle.tso_core.specs.Whole.{Whole, view_at, turn_at, found_by, made, turned}
-use Rattle.tso_core.specs.declared.plan.Decided.{Decided}
+use Rattle.tso_core.specs.declared.turn.Decided.{Decided}
 use Rattle.tso_core.specs.Steps.{decided, ends, goes, read_of, campaign_decides, campaign_of, save_decides, its_save, save_of, its_raise, raise_of, its_publish, publish_of, probe_decides, probe_of, resign_of}
 use Rattle.tso_core.specs.Sound.{IsDriver, IsSettled, MaySave, MayRaise, StandsAt, MayMake, IsSound}
 use Rattle.tso_core.proofs.Cases.{read_cases, goes_cases}
@@ -217,16 +216,3 @@ module _ (w : Whole) (s : IsSound w) (d : ℕ) (pos : 0 < d) (low : d ≤ w.setu
   -- the time that a driver goes to is below the clock's end
   pub turn_clock : (turn_at w d).next < 2 ^ 45
   turn_clock = clock_at (turn_at w d).due (turn_at w d) (view_at w d) driver_held (s.drivers d pos low).stands
-
-  -- the step that is due may be made
-  go_at : (due : Due) → (turn_at w d).due ≡ due → MayMake w d (step_due due (turn_at w d))
-  go_at Rest is = may_read
-  go_at Campaign is = may_campaign is
-  go_at Save is = may_save is
-  go_at Raise is = may_raise is
-  go_at Publish is = may_publish is
-  go_at Arm is = absurd (stands Arm is)
-  go_at Draw is = absurd (stands Draw is)
-
-  pub may_go : MayMake w d (step_due (turn_at w d).due (turn_at w d))
-  may_go = go_at (turn_at w d).due refl

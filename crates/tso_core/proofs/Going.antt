@@ -9,7 +9,7 @@ use Rattle.tso_core.specs.declared.reply.Kind.{Kind}
 use Rattle.tso_core.specs.declared.reply.Reply.{Reply}
 use Rattle.tso_core.specs.Asked.{HasActor, IsAsked}
 use Rattle.tso_core.specs.Due.{same_due, due_for}
-use Rattle.tso_core.specs.Machine.{whole_of, place_of, room_at, Answers}
+use Rattle.tso_core.specs.Machine.{whole_of, place_of, room_at, Goes}
 use Rattle.tso_core.specs.Rows.{told, gone, goes_on, row}
 use Rattle.tso_core.specs.Sound.{IsSound}
 use Rattle.tso_core.specs.Steps.{Stepped, due_of, due_step}
@@ -62,14 +62,15 @@ module _ (begun : Machine) (actor : Actor) (kinds : List Kind) (before : Reply) 
 
   module _ (test : same_due (due_for kind) (due_of (whole_of m) actor) ≡ true) where
     -- one that is next is made
-    pub along_made : (n : Machine) (reply : Reply) (o : Option Reply) → o ≡ told kind actor (whole_of m) answer → Answers reply n (due_step (whole_of m) actor kind) → room_at m (place_of m.setup actor) ≤ room_at n (place_of m.setup actor) + 1
+    pub along_made : (n : Machine) (reply : Reply) (o : Option Reply) → o ≡ told kind actor (whole_of m) answer → Goes (place_of m.setup actor) m reply n (due_step (whole_of m) actor kind)
         → IsAlong begun actor kinds before (i + 1) n (unwrap_or o reply)
-    along_made n reply o is answers left =
+    along_made n reply o is went =
+        let answers = went.answers in
         let r : Stepped = at_machine answer m in
         let due = sym (is_due (due_for kind) (due_of (whole_of m) actor) test) in
         let made : at_machine (unwrap_or o reply) n ≡ gone actor kind r (due_step (whole_of m) actor kind) = λ j. record { reply = unwrap_or (is j) (answers.reply j); after = answers.after j } in
         let goes : at_machine (unwrap_or o reply) n ≡ goes_on actor r kind = made ∙ sym (ap (λ (b : Bool). cond b (gone actor kind r (due_step (whole_of m) actor kind)) r) test) in
-        let room : room_at m (place_of begun.setup actor) ≤ room_at n (place_of begun.setup actor) + 1 = subst (λ (k : Setup). room_at m (place_of k actor) ≤ room_at n (place_of k actor) + 1) along.setup left in record {
+        let room : room_at m (place_of begun.setup actor) ≤ room_at n (place_of begun.setup actor) + 1 = subst (λ (k : Setup). room_at m (place_of k actor) ≤ room_at n (place_of k actor) + 1) along.setup went.room in record {
           sound = due_sound (whole_of m) along.sound actor kind actor_here kind_asked due actor refl (whole_of n) answers.after;
           setup = due_setup (whole_of m) along.sound actor kind actor_here kind_asked due actor refl (whole_of n) answers.after ∙ along.setup;
           room = omega (arith, along.room, room);

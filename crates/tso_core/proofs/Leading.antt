@@ -15,7 +15,7 @@ use Rattle.tso_model.specs.Steps.{held, held_or, HasClaim, knows, new_claim, cla
 use Rattle.tso_model.specs.Sound.{FitsA}
 use Rattle.tso_model.proofs.CellA.{cell_of-packed}
 use Rattle.tso_model.proofs.Records.{longer_push}
-use Rattle.tso_core.specs.declared.plan.Decided.{Decided}
+use Rattle.tso_core.specs.declared.turn.Decided.{Decided}
 use Rattle.tso_core.specs.declared.reply.Due.{Due}
 use Rattle.tso_core.specs.declared.reply.Due.TheVariants.{Rest, Campaign, Save, Raise, Publish}
 use Rattle.tso_core.specs.declared.reply.Kind.{Kind}

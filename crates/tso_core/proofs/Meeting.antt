@@ -2,7 +2,7 @@
 use Rattle.std.proofs.Common.{◌≡◌, ◌≢◌, ℕ, ◌<◌, List, [], ◌∷◌, length, get_or, set, map, sym, ◌∙◌, arith}
 use Rattle.std.proofs.lemmas.List.{length-map}
 use Rattle.tso_core.specs.declared.machine.Machine.{Machine}
-use Rattle.tso_core.specs.declared.post.Post.{Post}
+use Rattle.tso_core.specs.declared.notes.Post.{Post}
 use Rattle.tso_core.specs.declared.reply.Due.TheVariants.{Rest}
 use Rattle.tso_core.specs.Machine.{whole_of, waits_in, ClientAt}
 use Rattle.tso_core.specs.Seated.{view_of}

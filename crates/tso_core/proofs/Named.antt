@@ -8,7 +8,7 @@ use Rattle.tso_model.specs.Words.{packed, cell_of, cell_word, limit_at, cursor_a
 use Rattle.tso_model.specs.Plan.{end_of, tick_next}
 use Rattle.tso_model.specs.Steps.{word_of, word_after, held, hand}
 use Rattle.tso_model.proofs.Basics.{by_bool}
-use Rattle.tso_core.specs.declared.plan.Decided.{Decided}
+use Rattle.tso_core.specs.declared.turn.Decided.{Decided}
 use Rattle.tso_core.specs.declared.turn.Turn.{Turn}
 use Rattle.tso_core.specs.declared.reply.Due.{Due}
 use Rattle.tso_core.specs.declared.reply.Due.TheVariants.{Campaign, Save, Raise, Publish}

@@ -15,7 +15,7 @@ use Rattle.tso_model.specs.Plan.{end_of}
 use Rattle.tso_model.specs.Ledger.{windows_after, batches_after}
 use Rattle.tso_model.specs.Steps.{held, word_of, word_after, view_after, knows, raised, publishes}
 use Rattle.tso_core.specs.declared.turn.Turn.{Turn}
-use Rattle.tso_core.specs.declared.plan.Decided.{Decided}
+use Rattle.tso_core.specs.declared.turn.Decided.{Decided}
 use Rattle.tso_core.specs.declared.reply.Kind.{Kind}
 use Rattle.tso_core.specs.declared.reply.Reply.{Reply}
 use Rattle.tso_core.specs.declared.reply.Kind.TheVariants.{Raise as ToRaise, Publish as ToPublish}

@@ -12,7 +12,7 @@ use Rattle.tso_model.specs.Plan.{end_of, tick_next}
 use Rattle.tso_model.specs.Ledger.{batches_after, place}
 use Rattle.tso_model.specs.Steps.{held, hand, batch_of}
 use Rattle.tso_model.proofs.Basics.{by_bool}
-use Rattle.tso_core.specs.declared.plan.Decided.{Decided}
+use Rattle.tso_core.specs.declared.turn.Decided.{Decided}
 use Rattle.tso_core.specs.declared.reply.Due.{Due}
 use Rattle.tso_core.specs.declared.reply.Due.TheVariants.{Rest, Save, Raise, Publish}
 use Rattle.tso_core.specs.declared.reply.Kind.{Kind}

@@ -18,7 +18,7 @@ use Rattle.tso_model.specs.Ledger.{longer_last, windows_after}
 use Rattle.tso_model.specs.Steps.{held, held_or, hand, batch_of, new_claim, saved_window}
 use Rattle.tso_model.proofs.Basics.{by_bool, by_eq, by_lt, at_some}
 use Rattle.tso_model.proofs.Records.{longer_push}
-use Rattle.tso_core.specs.declared.plan.Decided.{Decided}
+use Rattle.tso_core.specs.declared.turn.Decided.{Decided}
 use Rattle.tso_core.specs.declared.reply.Due.{Due}
 use Rattle.tso_core.specs.declared.reply.Due.TheVariants.{Rest, Save, Raise, Publish}
 use Rattle.tso_core.specs.declared.reply.Kind.{Kind}
@@ -34,7 +34,7 @@ use Rattle.tso_core.specs.Notes.{tell_of, hear_of, heard_from, note_left}
 use Rattle.tso_core.specs.Sound.{IsSound, HasDriver, StandsAt}
 use Rattle.tso_core.specs.Asked.{HasActor}
 use Rattle.tso_core.specs.Laws.{windows_told, windows_with, lengthened_by, longer_by, ended_at, last_end, driver_of}
-use Rattle.tso_core.specs.WholeCalls.{DriverState, driver_state, Answers, cell_at, cursor_of, later_window, LeadTells, TickTells, ResignTells}
+use Rattle.tso_core.specs.WholeCalls.{DriverState, driver_state, Answers, cell_at, cursor_of, later_window, LeadTells, TickTells}
 use Rattle.tso_core.proofs.Bounds.{cell_fits, held_from}
 use Rattle.tso_core.proofs.Cases.{read_cases, goes_cases, look_cases}
 use Rattle.tso_core.proofs.Dues.{is_due}

@@ -1,18 +1,16 @@
 -- What each step does, by the word that it finds, and what follows from it: the answer, where a driver stands, and the lists of the run.
-use Rattle.std.specs.Prelude.{ℕ, ◌*◌, ◌/◌, ◌%◌, max, true, false, List, [], ◌∷◌, ◌++◌, nat_eq, nat_lt, ◌==◌, if◌then◌else◌}
+use Rattle.std.specs.Prelude.{ℕ, ◌/◌, ◌%◌, max, true, false, List, [], ◌∷◌, ◌++◌, nat_eq, nat_lt, ◌==◌, if◌then◌else◌}
 use Rattle.pd_types.specs.declared.oracle.Batch.{Batch}
 use Rattle.pd_types.specs.declared.oracle.Window.{Window}
 use Rattle.tso_model.specs.declared.view.View.{View}
 use Rattle.tso_model.specs.declared.step.WordStep.{WordStep}
 use Rattle.tso_model.specs.declared.step.WordStep.TheVariants.{LoadCell, ClaimTerm, SaveEnd, RaiseCursor, StoreLimit, ClearLimit, LoadLimit, ArmCount, AddArmed}
 use Rattle.tso_model.specs.Ledger.{longer_last, place}
-use Rattle.tso_model.specs.Plan.{end_of}
 use Rattle.tso_model.specs.Steps.{held, hand, new_claim, batch_of}
 use Rattle.tso_model.specs.Words.{packed, cell_of, cell_word, passes}
 use Rattle.tso_core.specs.declared.done.Done.{Done}
 use Rattle.tso_core.specs.declared.done.Done.TheVariants.{Read, Claimed, Beaten, Saved, Lost, Raised, Published, NoLimit, Stale, Looked, Armed, Refused, Granted}
-use Rattle.tso_core.specs.declared.reply.Due.TheVariants.{Campaign, Save, Raise, Publish}
-use Rattle.tso_core.specs.declared.reply.Due.{Due}
+use Rattle.tso_core.specs.declared.reply.Due.TheVariants.{Save, Raise, Publish}
 use Rattle.tso_core.specs.declared.reply.Reply.{Reply}
 use Rattle.tso_core.specs.declared.reply.Reply.TheVariants.{Beaten as IsBeaten, Lost as IsLost, Got, Again, NotLeader, Stale as IsStale, CellRead, Claimed as HasClaimed, Saved as HasSaved, Raised as HasRaised, Published as HasPublished, Looked as HasLooked, Armed as HasArmed}
 use Rattle.tso_core.specs.declared.turn.Turn.{Turn}
@@ -56,14 +54,6 @@ follow turn (Saved hi) = record { due = Raise; next = turn.next; publishes = tru
 follow turn (Raised cursor) = if turn.publishes then record { due = Publish; next = 0; publishes = true } else at_rest
 follow turn (Lost found) = record { due = Publish; next = 0; publishes = false }
 follow turn done = at_rest
-
--- the step on a word that goes on from here, or a load where none is due
-abbrev pub step_due : Due → Turn → WordStep
-step_due Campaign turn = ClaimTerm
-step_due Save turn = SaveEnd (end_of turn.next)
-step_due Raise turn = RaiseCursor (turn.next * 262144)
-step_due Publish turn = if turn.publishes then StoreLimit else ClearLimit
-step_due due turn = LoadCell
 
 -- the windows of a run after this was done
 abbrev pub windows_kept : Done → List Window → List Window

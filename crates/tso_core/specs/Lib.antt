@@ -1,6 +1,7 @@
 pub mod Asked
 pub mod Cached
 pub mod Done
+pub mod Driving
 pub mod Due
 pub mod Laws
 pub mod Machine

@@ -1,19 +1,15 @@
 -- What the machine in memory means, and the room that a step of one actor finds there.
-use Rattle.std.specs.Prelude.{◌≡◌, ℕ, ◌+◌, List, map, min, get_or}
+use Rattle.std.specs.Prelude.{◌≡◌, ℕ, ◌+◌, ◌<◌, ◌≤◌, List, map, min, get_or}
 use Rattle.pd_types.specs.declared.oracle.Actor.{Actor}
 use Rattle.pd_types.specs.declared.oracle.Actor.TheVariants.{Driver, Client, Store}
 use Rattle.tso_model.specs.declared.view.Setup.{Setup}
 use Rattle.tso_core.specs.declared.machine.Machine.{Machine}
-use Rattle.tso_core.specs.declared.post.Post.{Post}
+use Rattle.tso_core.specs.declared.notes.Post.{Post}
 use Rattle.tso_core.specs.declared.reply.Due.{Due}
 use Rattle.tso_core.specs.declared.reply.Reply.{Reply}
-use Rattle.tso_core.specs.declared.turn.Turn.{Turn}
 use Rattle.tso_core.specs.Seated.{view_of, no_seat}
-use Rattle.tso_core.specs.Whole.{Whole, view_at, turn_at, found_by, made}
-use Rattle.tso_core.specs.Steps.{Stepped, decided, due_at, due_of}
-use Rattle.tso_model.specs.declared.step.WordStep.{WordStep}
-use Rattle.tso_core.specs.declared.done.Done.{Done}
-use Rattle.tso_core.specs.Done.{done_of, reply_of, follow, step_due}
+use Rattle.tso_core.specs.Whole.{Whole, turn_at}
+use Rattle.tso_core.specs.Steps.{Stepped, due_at, due_of}
 use Rattle.tso_core.specs.Asked.{HasActor}
 use Rattle.tso_core.specs.Sound.{IsSound, HasDriver, HasClient}
 
@@ -43,19 +39,21 @@ place_of k (Driver d) = d
 place_of k (Client c) = k.drivers + c
 place_of k (Store s) = 0
 
--- the machine is sound, and this is the step that is the actor's next
+-- the machine is sound, this is the step that is the actor's next, and there is room for it
 pub record IsAt (next : Due) (actor : Actor) (m : Machine) : Type 0 where
   pub sound : IsSound (whole_of m)
   pub has : HasActor m.setup actor
   pub due : due_of (whole_of m) actor ≡ next
+  pub room : 0 < room_at m (place_of m.setup actor)
 
 -- the same of a driver
 pub record DriverAt (next : Due) (d : ℕ) (m : Machine) : Type 0 where
   pub sound : IsSound (whole_of m)
   pub driver : HasDriver m.setup d
   pub due : (turn_at (whole_of m) d).due ≡ next
+  pub room : 0 < room_at m d
 
--- the same of a client
+-- a client at this due
 pub record ClientAt (next : Due) (c : ℕ) (m : Machine) : Type 0 where
   pub sound : IsSound (whole_of m)
   pub client : HasClient m.setup c
@@ -66,10 +64,7 @@ pub record Answers (said : Reply) (m : Machine) (r : Stepped) : Type 0 where
   pub reply : said ≡ r.reply
   pub after : whole_of m ≡ r.after
 
--- the driver makes the step that is due, and goes on as what it did decides
-abbrev pub went_on : Whole → ℕ → Stepped
-went_on w d =
-    let turn : Turn = turn_at w d in
-    let step : WordStep = step_due turn.due turn in
-    let done : Done = done_of step (found_by w d step) (view_at w d) in
-    decided (made w d step) d (record { reply = reply_of done; turn = follow turn done })
+-- a step of the seat at this place answers so, and takes one place of its room at most
+pub record Goes (id : ℕ) (old : Machine) (said : Reply) (new : Machine) (r : Stepped) : Type 0 where
+  pub answers : Answers said new r
+  pub room : room_at old id ≤ room_at new id + 1

@@ -8,7 +8,7 @@ use Rattle.tso_model.specs.declared.step.WordStep.{WordStep}
 use Rattle.tso_model.specs.declared.step.WordStep.TheVariants.{LoadCell, ClaimTerm, SaveEnd, RaiseCursor, StoreLimit, ClearLimit, LoadLimit, ArmCount, AddArmed}
 use Rattle.tso_model.specs.History.{added_by}
 use Rattle.tso_model.specs.Moves.{greater}
-use Rattle.tso_model.specs.Steps.{refused, adds, held, hand, word_of}
+use Rattle.tso_model.specs.Steps.{held, hand, word_of}
 
 -- the view that heard a note with this pair
 abbrev pub heard : Seen → View → View
@@ -17,10 +17,6 @@ heard seen v = record v {
   took_clients = v.took_clients ++ 0 ∷ [];
   seen = greater v.seen seen;
 }
-
--- the view whose armed count is added and refused at the cursor `at`
-abbrev pub overshot : ℕ → View → View
-overshot at v = record (refused at v.armed v) { added = (adds v).added }
 
 -- the cell that it knows is in range
 pub record CellFits (v : View) : Type 0 where

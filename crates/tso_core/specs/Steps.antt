@@ -12,7 +12,7 @@ use Rattle.tso_model.specs.declared.step.WordStep.TheVariants.{LoadCell, ClaimTe
 use Rattle.tso_model.specs.Words.{packed, cell_of, cell_word, passes}
 use Rattle.tso_model.specs.Steps.{held, hand, batch_of}
 use Rattle.tso_core.specs.declared.turn.Turn.{Turn}
-use Rattle.tso_core.specs.declared.plan.Decided.{Decided}
+use Rattle.tso_core.specs.declared.turn.Decided.{Decided}
 use Rattle.tso_core.specs.declared.reply.Due.{Due}
 use Rattle.tso_core.specs.declared.reply.Due.TheVariants.{Rest, Campaign, Save, Raise, Publish, Arm, Draw}
 use Rattle.tso_core.specs.declared.reply.Kind.{Kind}

@@ -6,13 +6,12 @@ ghost use Rattle.tso_core.specs.Machine.{whole_of, place_of, room_at};
 ghost use Rattle.tso_core.specs.Steps.{due_of};
 ghost use Rattle.tso_core.specs.Sound.{IsSound, MayMake, HasDriver};
 ghost use Rattle.tso_core.specs.Whole.{view_at, turn_at, found_by, made};
-ghost use Rattle.tso_model.specs.Steps.{held};
 
-use crate::post::Post;
+use crate::notes::Post;
 use crate::run::Run;
 use crate::seat::Seat;
 use crate::{Done, Due, Turn};
-use pd_types::{Actor, NoMemory, Window};
+use pd_types::{Actor, NoMemory};
 use tso_model::{Setup, WordStep};
 
 /// The oracle: its words, what each actor knows, where each stands, and the lists of its run.
@@ -96,14 +95,5 @@ impl Machine {
             Actor::Client(_) => self.seats[self.place(actor)].due(),
             Actor::Store(_) => Due::Rest,
         }
-    }
-
-    /// The driver's latest window.
-    pub fn window(&self, driver: u8) -> Window
-        requires sound { IsSound (whole_of self.now) }
-        requires driver { HasDriver self.now.setup driver }
-        ensures value { result ≡ held (view_at (whole_of self.now) driver) }
-    {
-        self.seats[driver as usize].held()
     }
 }

@@ -1,17 +1,15 @@
 // A new oracle in memory.
-ghost use Rattle.std.specs.Prelude.{◌≡◌, ◌+◌, ◌<◌, ◌≤◌, [], ◌++◌, map, replicate, IfOk, OnOk};
+ghost use Rattle.std.specs.Prelude.{◌≡◌, ◌+◌, ◌≤◌, [], ◌++◌, map, replicate, IfOk, OnOk};
 ghost use Rattle.tso_model.specs.Moves.{numbers_from, first_words};
 ghost use Rattle.tso_model.specs.Sound.{IsSetup};
-ghost use Rattle.tso_core.specs.Due.{at_rest};
 ghost use Rattle.tso_core.specs.Machine.{waits_in, whole_of};
 ghost use Rattle.tso_core.specs.Seated.{view_of};
 ghost use Rattle.tso_core.specs.Whole.{driver_view, client_view};
 ghost use Rattle.tso_core.specs.Opened.{first_views, opened};
-ghost use Rattle.tso_model.specs.Words.{opening_claim};
 
 use crate::Turn;
 use crate::machine::Machine;
-use crate::post::Post;
+use crate::notes::Post;
 use crate::run::Run;
 use crate::seat::Seat;
 use pd_types::{CellWord, NoMemory, Window};
@@ -29,9 +27,18 @@ impl Machine {
     {
         let words = opening_words(alloc, setup)?;
         let seats = opening_seats(alloc, setup)?;
-        let turns = opening_turns(alloc, setup.drivers)?;
+        // The first turn is nobody's.
+        let turns = vec![in alloc; Turn::rest(); setup.drivers as usize + 1]?;
         let posts = opening_posts(alloc, setup.clients)?;
-        let run = Run::new(alloc, opening_window(setup.cell))?;
+        // Nothing was drawn in the window that the opening cell names.
+        let CellWord { saved, term } = setup.cell;
+        let first = Window {
+            term,
+            driver: 0,
+            lo: saved,
+            hi: saved,
+        };
+        let run = Run::new(alloc, first)?;
         Ok(Machine {
             setup,
             words,
@@ -84,14 +91,6 @@ fn seat_clients(alloc: Global, setup: Setup, seats: &mut Vec<Seat>) -> Result<()
     Ok(())
 }
 
-// The first turn is nobody's.
-fn opening_turns(alloc: Global, drivers: u8) -> Result<Vec<Turn>, NoMemory>
-    requires few { drivers ≤ 7 }
-    ensures turns { IfOk result (λ turns. turns.items ≡ replicate (drivers + 1) at_rest) }
-{
-    Ok(vec![in alloc; Turn::rest(); drivers as usize + 1]?)
-}
-
 // The first post is nobody's.
 fn opening_posts(alloc: Global, clients: u8) -> Result<Vec<Post>, NoMemory>
     requires few { clients ≤ 64 }
@@ -102,16 +101,4 @@ fn opening_posts(alloc: Global, clients: u8) -> Result<Vec<Post>, NoMemory>
         posts.push(Post::new(alloc))?;
     }
     Ok(posts)
-}
-
-// The window that the opening cell names. Nothing was drawn in it.
-fn opening_window(cell: CellWord) -> Window
-    ensures value { result ≡ (opening_claim cell).window }
-{
-    Window {
-        term: cell.term,
-        driver: 0,
-        lo: cell.saved,
-        hi: cell.saved,
-    }
 }

@@ -4,6 +4,7 @@ ghost use Rattle.tso_model.specs.Moves.{blank, new_note, spent_view};
 ghost use Rattle.tso_model.specs.Steps.{held, hand, word_of, word_after};
 ghost use Rattle.tso_model.specs.Words.{cell_word, packed};
 ghost use Rattle.tso_core.specs.Done.{done_of};
+ghost use Rattle.tso_core.specs.Driving.{has_term_for};
 ghost use Rattle.tso_core.specs.Ready.{heard, CellFits, HeldFits, Suits};
 ghost use Rattle.tso_core.specs.Seated.{with_view, seat_after};
 ghost use Rattle.tso_core.specs.Steps.{client_due};
@@ -11,7 +12,7 @@ ghost use Rattle.tso_core.specs.Steps.{client_due};
 mod client;
 mod driver;
 
-use crate::{Done, Due};
+use crate::{Done, Due, Kind};
 use pd_types::{CellWord, NoMemory, Seen, Window};
 use std::alloc::Global;
 use std::marker::Model;
@@ -163,11 +164,15 @@ impl Seat {
         self.seen
     }
 
-    /// Whether it holds a term.
-    pub fn holds(&self) -> bool
-        ensures value { result ≡ self.now.view.holds }
+    /// Whether it holds a term where a step of this kind needs one.
+    pub fn has_term_for(&self, kind: Kind) -> bool
+        ensures value { result ≡ has_term_for kind self.now.view.holds }
     {
-        self.holds
+        match kind {
+            Kind::Probe { .. } | Kind::Resign => self.holds,
+            // All other steps are for a driver without a term too.
+            _ => true,
+        }
     }
 
     /// Its latest window, or one of no length.
@@ -216,20 +221,10 @@ impl Seat {
     {
         match step {
             WordStep::LoadCell => found,
-            WordStep::ClaimTerm => {
-                if found == self.known_word() {
-                    self.known_word() + 1
-                } else {
-                    found
-                }
-            }
-            WordStep::SaveEnd { hi } => {
-                if found == self.held_word() {
-                    packed(hi, self.held().term)
-                } else {
-                    found
-                }
-            }
+            WordStep::ClaimTerm if found == self.known_word() => self.known_word() + 1,
+            WordStep::ClaimTerm => found,
+            WordStep::SaveEnd { hi } if found == self.held_word() => packed(hi, self.held().term),
+            WordStep::SaveEnd { .. } => found,
             WordStep::RaiseCursor { at } => found.max(at),
             WordStep::StoreLimit => self.held_word(),
             WordStep::ClearLimit => 0,

@@ -1,28 +1,90 @@
-// The steps of drivers and clients, each where it is its actor's next.
-ghost use Rattle.std.specs.Prelude.{◌≡◌, ◌+◌, ◌<◌, ◌≤◌};
-ghost use Rattle.tso_core.specs.declared.reply.Due.TheVariants.{Rest};
-ghost use Rattle.tso_core.specs.declared.reply.Reply.TheVariants.{OutOfTurn};
-ghost use Rattle.tso_core.specs.Asked.{IsAsked};
-ghost use Rattle.tso_core.specs.Due.{due_for};
-ghost use Rattle.tso_core.specs.Machine.{whole_of, place_of, room_at, went_on, IsAt, DriverAt, Answers};
-ghost use Rattle.tso_core.specs.Steps.{due_step, read_of, probe_of, resign_of};
+// Single steps, each where it is its actor's next, and whole calls: the steps of an actor in a row.
+ghost use Rattle.std.specs.Prelude.{◌≡◌, IfOk, OnOk, OnErr};
+ghost use Rattle.std.specs.List.{AllByRecursion};
 ghost use Rattle.pd_types.specs.declared.oracle.Actor.TheVariants.{Driver};
-ghost use Rattle.tso_core.specs.Whole.{turn_at};
+ghost use Rattle.tso_core.specs.declared.reply.Reply.TheVariants.{OutOfTurn};
+ghost use Rattle.tso_core.specs.Asked.{HasActor, IsAsked};
+ghost use Rattle.tso_core.specs.Due.{due_for};
+ghost use Rattle.tso_core.specs.Machine.{whole_of, place_of, IsAt, DriverAt, Goes};
+ghost use Rattle.tso_core.specs.Rows.{call_of, told, won};
+ghost use Rattle.tso_core.specs.Sound.{IsSound, HasDriver};
+ghost use Rattle.tso_core.specs.Steps.{due_step};
 
 use crate::machine::Machine;
-use crate::plan::{after_probe, after_read};
-use crate::{Kind, Reply, Turn};
-use pd_types::Actor;
-use tso_model::{WordStep, cell_in};
+use crate::{Due, Kind, Reply};
+use pd_types::{Actor, NoMemory, Window};
+use tso_model::WordStep;
 
 impl Machine {
+    /// A whole call of an actor at rest: the steps of these kinds in a row, each where it comes to be
+    /// next. It takes its room before the first; want of memory leaves the state.
+    pub fn call(&mut self, actor: Actor, kinds: &[Kind]) -> Result<Reply, NoMemory>
+        requires sound { IsSound (whole_of self.old) }
+        requires actor { HasActor self.old.setup actor }
+        requires kinds { AllByRecursion (IsAsked self.old.setup) kinds.now }
+        ensures reply { IfOk result (λ reply. reply ≡ (call_of (whole_of self.old) actor kinds.now).reply) }
+        ensures after { OnOk result (whole_of self.new ≡ (call_of (whole_of self.old) actor kinds.now).after) }
+        ensures err { OnErr result (whole_of self.new ≡ whole_of self.old) }
+        ensures sound { IsSound (whole_of self.new) }
+        ensures setup { self.new.setup ≡ self.old.setup }
+    {
+        let due = self.due(actor);
+        let mut answer = Reply::OutOfTurn { expected: due };
+        if !due.is(Due::Rest) {
+            return Ok(answer);
+        }
+        self.reserve(self.place(actor), kinds.len())?;
+        for kind in kinds {
+            if kind.due().is(self.due(actor)) {
+                let told = self.told(actor, *kind, answer);
+                let reply = self.step(actor, *kind);
+                answer = told.unwrap_or(reply);
+            }
+        }
+        Ok(answer)
+    }
+
+    // What a row answers in place of the step's own answer.
+    fn told(&self, actor: Actor, kind: Kind, before: Reply) -> Option<Reply>
+        requires sound { IsSound (whole_of self.now) }
+        requires actor { HasActor self.now.setup actor }
+        ensures value { result ≡ told kind actor (whole_of self.now) before }
+    {
+        match kind {
+            Kind::Raise => match actor {
+                Actor::Driver(driver) => Some(Reply::Moved {
+                    next: self.turn(driver).next,
+                    hi: self.seats[driver as usize].held().hi,
+                }),
+                Actor::Client(_) | Actor::Store(_) => None,
+            },
+            Kind::Publish => Some(before),
+            // All other answers are the row's too.
+            _ => None,
+        }
+    }
+
+    /// A lead that went on to its end has won the window that its driver holds.
+    pub fn won(&self, driver: u8, answer: Reply) -> Reply
+        requires sound { IsSound (whole_of self.now) }
+        requires driver { HasDriver self.now.setup driver }
+        ensures value { result ≡ (won driver (record { reply = answer; after = whole_of self.now })).reply }
+    {
+        match answer {
+            Reply::Moved { .. } => {
+                let Window { term, lo, hi, .. } = self.seats[driver as usize].held();
+                Reply::Won { term, lo, hi }
+            }
+            // It ended before.
+            _ => answer,
+        }
+    }
+
     /// The step of an actor for which one of this kind is next.
     pub fn step(&mut self, actor: Actor, kind: Kind) -> Reply
         requires at { IsAt (due_for kind) actor self.old }
         requires kind { IsAsked self.old.setup kind }
-        requires room { 0 < room_at self.old (place_of self.old.setup actor) }
-        ensures answers { Answers result self.new (due_step (whole_of self.old) actor kind) }
-        ensures room { room_at self.old (place_of self.old.setup actor) ≤ room_at self.new (place_of self.old.setup actor) + 1 }
+        ensures goes { Goes (place_of self.old.setup actor) self.old result self.new (due_step (whole_of self.old) actor kind) }
     {
         let id = self.place(actor);
         match actor {
@@ -38,84 +100,25 @@ impl Machine {
         }
     }
 
-    // The same of a driver.
+    // The same of a driver: the step is made on its word, and what it found and did decides the
+    // answer and what is next.
     fn drive(&mut self, driver: u8, kind: Kind) -> Reply
         requires at { DriverAt (due_for kind) driver self.old }
-        requires room { 0 < room_at self.old driver }
-        ensures answers { Answers result self.new (due_step (whole_of self.old) (Driver driver) kind) }
-        ensures room { room_at self.old driver ≤ room_at self.new driver + 1 }
+        ensures goes { Goes driver self.old result self.new (due_step (whole_of self.old) (Driver driver) kind) }
     {
-        match kind {
-            Kind::Read { now } => self.read(driver, now),
-            Kind::Probe { now } => self.probe(driver, now),
-            Kind::Resign => self.resign(driver),
-            Kind::Campaign => self.go_on(driver),
-            Kind::Save => self.go_on(driver),
-            Kind::Raise => self.go_on(driver),
-            Kind::Publish => self.go_on(driver),
-            Kind::Look { .. } | Kind::Arm { .. } | Kind::Draw => out_of_turn(kind),
-        }
-    }
-
-    // A driver at rest reads the cell at a moment.
-    fn read(&mut self, driver: u8, now: u64) -> Reply
-        requires at { DriverAt Rest driver self.old }
-        requires room { 0 < room_at self.old driver }
-        ensures answers { Answers result self.new (read_of (whole_of self.old) driver now) }
-        ensures room { room_at self.old driver ≤ room_at self.new driver + 1 }
-    {
-        let cell = cell_in(self.make(driver as usize, WordStep::LoadCell).found);
-        let decided = after_read(cell, now);
-        self.turns[driver as usize] = decided.turn;
-        decided.reply
-    }
-
-    // A driver at rest with a term reads its cursor at a moment.
-    fn probe(&mut self, driver: u8, now: u64) -> Reply
-        requires at { DriverAt Rest driver self.old }
-        requires room { 0 < room_at self.old driver }
-        ensures answers { Answers result self.new (probe_of (whole_of self.old) driver now) }
-        ensures room { room_at self.old driver ≤ room_at self.new driver + 1 }
-    {
-        let seat = &self.seats[driver as usize];
-        if !seat.holds() {
+        let id = driver as usize;
+        if !self.seats[id].has_term_for(kind) {
             return Reply::NotLeading;
         }
-        let hi = seat.held().hi;
-        let cursor = self
-            .make(driver as usize, WordStep::RaiseCursor { at: 0 })
-            .found;
-        let decided = after_probe(hi, now, cursor);
-        self.turns[driver as usize] = decided.turn;
-        decided.reply
-    }
-
-    // A driver at rest with a term gives it up.
-    fn resign(&mut self, driver: u8) -> Reply
-        requires at { DriverAt Rest driver self.old }
-        requires room { 0 < room_at self.old driver }
-        ensures answers { Answers result self.new (resign_of (whole_of self.old) driver) }
-        ensures room { room_at self.old driver ≤ room_at self.new driver + 1 }
-    {
-        if !self.seats[driver as usize].holds() {
-            return Reply::NotLeading;
-        }
-        self.make(driver as usize, WordStep::ClearLimit);
-        self.turns[driver as usize] = Turn::rest();
-        Reply::Resigned
-    }
-
-    // A driver makes the step that is due.
-    fn go_on(&mut self, driver: u8) -> Reply
-        requires at { DriverAt (turn_at (whole_of self.old) driver).due driver self.old }
-        requires room { 0 < room_at self.old driver }
-        ensures answers { Answers result self.new (went_on (whole_of self.old) driver) }
-        ensures room { room_at self.old driver ≤ room_at self.new driver + 1 }
-    {
+        let hi = self.seats[id].held().hi;
         let turn = self.turn(driver);
-        let done = self.make(driver as usize, turn.step()).done;
-        self.turns[driver as usize] = turn.after(done);
-        done.reply()
+        let Some(step) = turn.step(kind) else {
+            return out_of_turn(kind);
+        };
+        let made = self.make(id, step);
+        let decided = turn.decide(kind, hi, made);
+        self.turns[id] = decided.turn;
+        decided.reply
     }
 }
 

@@ -1,7 +1,7 @@
 // What a step of a driver makes of what it knows and did.
 ghost use Rattle.std.specs.Prelude.{◌≡◌, ◌<◌};
 ghost use Rattle.tso_model.specs.declared.step.WordStep.TheVariants.{ClaimTerm, SaveEnd, RaiseCursor, StoreLimit, ClearLimit};
-ghost use Rattle.tso_model.specs.Steps.{knows, new_claim, claimed, saves, marks};
+ghost use Rattle.tso_model.specs.Steps.{knows, marks};
 ghost use Rattle.tso_model.specs.Words.{cell_of};
 ghost use Rattle.tso_core.specs.Done.{done_of};
 ghost use Rattle.tso_core.specs.Ready.{CellFits, HeldFits};
@@ -35,18 +35,7 @@ impl Seat {
                 found: self.know(found),
             };
         }
-        Done::Claimed {
-            window: self.claim(),
-        }
-    }
-
-    // The window of the term behind the one that it knows begins where that one's ends.
-    fn claim(&mut self) -> Window
-        requires term { self.old.view.cell.term < 262143 }
-        requires room { 0 < self.old.spare }
-        ensures value { result ≡ (new_claim self.old.view).window }
-        ensures after { self.new ≡ with_view (claimed self.old.view) self.old }
-    {
+        // The window of the next term begins where the known one ends.
         self.spare -= 1;
         if let Some(claim) = self.latest {
             self.older.push_reserved(claim);
@@ -62,7 +51,7 @@ impl Seat {
         self.latest = Some(Claim { window, at: saved });
         self.holds = true;
         self.marked = false;
-        window
+        Done::Claimed { window }
     }
 
     pub(super) fn save(&mut self, hi: u64, found: u64) -> Done
@@ -76,17 +65,9 @@ impl Seat {
                 found: self.know(found),
             };
         }
-        self.lengthen(hi);
-        Done::Saved { hi }
-    }
-
-    fn lengthen(&mut self, hi: u64)
-        requires room { 0 < self.old.spare }
-        ensures after { self.new ≡ with_view (saves hi self.old.view self.old.view.latest) self.old }
-    {
         self.spare -= 1;
         let Some(claim) = self.latest else {
-            return;
+            return Done::Saved { hi };
         };
         let window = claim.window;
         self.cell = CellWord {
@@ -100,6 +81,7 @@ impl Seat {
             window: lengthened(hi, window),
             at: claim.at,
         });
+        Done::Saved { hi }
     }
 
     // Whether a raise to this value marks the held window as raised to its start.

@@ -29,7 +29,7 @@ loop-kind-preserved c =
       | then-is w ↦ subst (λ (n : Machine). IsAlong begun c.args.actor kinds before (i + 1) n c.if-is.answer) (sym w.self-is)
           (subst (λ (r : Reply). IsAlong begun c.args.actor kinds before (i + 1) w.step-reply.new.self r) (sym (w.answer-is ∙ w.unwrap_or-answer.ensures))
           (along_made begun c.args.actor kinds before i m c.loop-kind.answer (Read 0) c.loop-kind.invariant c.loop-kind-test.true has asked (test ∙ w.if-is.true)
-          w.step-reply.new.self w.step-reply.result w.told-told.result w.told-told.ensures.value w.step-reply.ensures.answers w.step-reply.ensures.room))
+          w.step-reply.new.self w.step-reply.result w.told-told.result w.told-told.ensures.value w.step-reply.ensures.goes))
       | else-is w ↦ subst (λ (n : Machine). IsAlong begun c.args.actor kinds before (i + 1) n c.if-is.answer) (sym w.self-is)
           (subst (λ (r : Reply). IsAlong begun c.args.actor kinds before (i + 1) m r) (sym w.answer-is)
           (along_past begun c.args.actor kinds before i m c.loop-kind.answer (Read 0) c.loop-kind.invariant c.loop-kind-test.true has asked (test ∙ w.if-is.false)))

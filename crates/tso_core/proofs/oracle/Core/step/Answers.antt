@@ -26,7 +26,7 @@ invariant_of-self-2 c =
     let has : HasActor m.setup c.args.actor = subst (λ (w : Whole). HasActor w.setup c.args.actor) (sym same) c.requires.actor in
     let asked : IsAsked m.setup c.args.kind = subst (λ (w : Whole). IsAsked w.setup c.args.kind) (sym same) c.requires.kind in
     let due = ap (λ (w : Whole). due_of w c.args.actor) c.reserve.ensures.whole ∙ sym c.due-due.ensures.value ∙ sym (is_due c.due.result c.due-due.result (sym c.is.ensures.value ∙ c.if-not-is.false)) ∙ c.due.ensures.value in
-    due_sound m sound c.args.actor c.args.kind has asked due c.args.actor refl (whole_of c.step.new.self) c.step.ensures.answers.after
+    due_sound m sound c.args.actor c.args.kind has asked due c.args.actor refl (whole_of c.step.new.self) c.step.ensures.goes.answers.after
 
 pub returns-clause-sound : goal.returns-clause-sound
 returns-clause-sound c = invariant_of-self-2 c
@@ -39,4 +39,4 @@ returns-clause-setup c =
     let has : HasActor m.setup c.args.actor = subst (λ (w : Whole). HasActor w.setup c.args.actor) (sym same) c.requires.actor in
     let asked : IsAsked m.setup c.args.kind = subst (λ (w : Whole). IsAsked w.setup c.args.kind) (sym same) c.requires.kind in
     let due = ap (λ (w : Whole). due_of w c.args.actor) c.reserve.ensures.whole ∙ sym c.due-due.ensures.value ∙ sym (is_due c.due.result c.due-due.result (sym c.is.ensures.value ∙ c.if-not-is.false)) ∙ c.due.ensures.value in
-    due_setup m sound c.args.actor c.args.kind has asked due c.args.actor refl (whole_of c.step.new.self) c.step.ensures.answers.after ∙ ap (λ (w : Whole). w.setup) same
+    due_setup m sound c.args.actor c.args.kind has asked due c.args.actor refl (whole_of c.step.new.self) c.step.ensures.goes.answers.after ∙ ap (λ (w : Whole). w.setup) same
