@@ -11,7 +11,7 @@ use Rattle.pd_types.specs.declared.region.Peer.{Peer}
 use Rattle.pd_types.specs.declared.region.RegionBeat.{RegionBeat}
 use Rattle.store_table.specs.declared.entry.StoreEntry.{StoreEntry}
 use Rattle.store_table.specs.Entries.{entry_at, is_live, is_usable}
-use Rattle.store_table.specs.Standing.{usable_test}
+use Rattle.store_table.specs.Live.{usable_test}
 use Rattle.op_step.specs.Peers.{peer_on}
 use Rattle.balance_sched.specs.declared.moves.Kind.{Kind}
 use Rattle.balance_sched.specs.declared.moves.Kind.TheVariants.{Regions, Leaders}

@@ -13,6 +13,7 @@ use Rattle.pd_types.specs.BeatCheck.{has_store}
 use Rattle.pd_types.specs.declared.region.Epoch.{Epoch}
 use Rattle.pd_types.specs.declared.region.Peer.{Peer}
 use Rattle.pd_types.specs.declared.region.RegionBeat.{RegionBeat}
+use Rattle.pd_types.proofs.Numbers.{same_number}
 use Rattle.region_tree.specs.Moves.{CountMoves, count_displaced, displaced_by}
 use Rattle.region_tree.specs.Stale.{put_refusal, refusal_by, stale_by}
 use Rattle.region_tree.specs.Standing.{stays}
@@ -29,9 +30,6 @@ number_at f counts s = unwrap_or (option_map f (map.get counts s)) 0
 
 pub nothing_kept : (f : StoreCount → ℕ) (s : ℕ) → number_at f map.empty s ≡ 0
 nothing_kept f s = ap (λ (o : Option StoreCount). unwrap_or (option_map f o) 0) (map.get-empty nat_cmp s)
-
-same_number : (a b : ℕ) → nat_eq a b ≡ true → a ≡ b
-same_number a b h = grind (arith, nat_tests)
 
 module _ (old new : map.FinMap nat_cmp StoreCount) (store : ℕ) (row : StoreCount) (is : new ≡ map.insert old store row) where
   read : (s : ℕ) → map.get new s ≡ cond (nat_eq store s) (Some row) (map.get old s)

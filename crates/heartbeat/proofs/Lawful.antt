@@ -1,6 +1,5 @@
 -- The laws of answers and of counts.
-use Rattle.std.proofs.Common.{refl, ◌≡◌, ℕ, ◌+◌, ◌<◌, ◌≤◌, Bool, true, false, ◌&&◌, cond, nat_eq, nat_lt, List, length, ap, sym, ◌∙◌, Some, None, Option, ◌↔◌, arith}
-use Rattle.std.proofs.lemmas.Bool.{true≢false}
+use Rattle.std.proofs.Common.{◌≡◌, ℕ, ◌+◌, ◌<◌, ◌≤◌, Bool, true, false, ◌&&◌, cond, nat_eq, nat_lt, List, length, ap, ◌∙◌, Some, None, Option, ◌↔◌, arith}
 use Rattle.std.proofs.lemmas.Bool.Decides.{nat_tests}
 use Rattle.std.proofs.lemmas.List.Folds.{Any-from_list_any, list_any-from_Any}
 use Rattle.std.specs.List.{Any, filter}
@@ -9,6 +8,8 @@ use Rattle.pd_types.specs.declared.beat.BeatFault.{BeatFault}
 use Rattle.pd_types.specs.declared.region.Epoch.{Epoch}
 use Rattle.pd_types.specs.declared.region.Peer.{Peer}
 use Rattle.pd_types.specs.declared.region.RegionBeat.{RegionBeat}
+use Rattle.pd_types.proofs.Bools.{and_both, and_true}
+use Rattle.pd_types.proofs.Numbers.{equal, same_number}
 use Rattle.region_tree.specs.Stale.{ids_of, is_full, put_beat, removed_by, stale_by}
 use Rattle.region_tree.specs.Standing.{stays}
 use Rattle.region_tree.proofs.Lawful.{inserted_length}
@@ -45,31 +46,18 @@ accepted_else beat held passes fresh low =
 weaker : {X : Type 0} (P Q : X → Type 0) → ((x : X) → P x → Q x) → (xs : List X) → Any P xs → Any Q xs
 weaker P Q f xs (k, x, low, at, p) = (k, x, low, at, f x p)
 
-same : (a b : ℕ) → nat_eq a b ≡ true → a ≡ b
-same a b h = grind (arith, nat_tests)
-
-equal : (a b : ℕ) → a ≡ b → nat_eq a b ≡ true
-equal a b h = grind (arith, nat_tests)
-
-both : (a b : Bool) → a && b ≡ true → (a ≡ true) × (b ≡ true)
-both true b h = (refl, h)
-both false b h = absurd (true≢false (sym h))
-
-join : (a b : Bool) → a ≡ true → b ≡ true → a && b ≡ true
-join a b h k = ap (λ (c : Bool). c && b) h ∙ k
-
 pub on_by_peer : (store : ℕ) (beat : RegionBeat) → (is_on store beat ≡ true) ↔ Any (λ (peer : Peer). peer.store ≡ store) beat.region.peers
 on_by_peer store beat = (
-  λ h. weaker (λ (peer : Peer). nat_eq peer.store store ≡ true) (λ (peer : Peer). peer.store ≡ store) (λ peer is. same peer.store store is) beat.region.peers (Any-from_list_any (λ (peer : Peer). nat_eq peer.store store) beat.region.peers h),
+  λ h. weaker (λ (peer : Peer). nat_eq peer.store store ≡ true) (λ (peer : Peer). peer.store ≡ store) (λ peer is. same_number peer.store store is) beat.region.peers (Any-from_list_any (λ (peer : Peer). nat_eq peer.store store) beat.region.peers h),
   λ h. list_any-from_Any (λ (peer : Peer). nat_eq peer.store store) beat.region.peers (weaker (λ (peer : Peer). peer.store ≡ store) (λ (peer : Peer). nat_eq peer.store store ≡ true) (λ peer is. equal peer.store store is) beat.region.peers h),
 )
 
 pub led_by_peer : (store : ℕ) (beat : RegionBeat) → (leads_on store beat ≡ true) ↔ Any (λ (peer : Peer). (peer.id ≡ beat.leader) × (peer.store ≡ store)) beat.region.peers
 led_by_peer store beat = (
   λ h. weaker (λ (peer : Peer). nat_eq peer.id beat.leader && nat_eq peer.store store ≡ true) (λ (peer : Peer). (peer.id ≡ beat.leader) × (peer.store ≡ store))
-      (λ peer is. let parts = both (nat_eq peer.id beat.leader) (nat_eq peer.store store) is in (same peer.id beat.leader parts.0, same peer.store store parts.1)) beat.region.peers
+      (λ peer is. let parts = and_true (nat_eq peer.id beat.leader) (nat_eq peer.store store) is in (same_number peer.id beat.leader parts.0, same_number peer.store store parts.1)) beat.region.peers
       (Any-from_list_any (λ (peer : Peer). nat_eq peer.id beat.leader && nat_eq peer.store store) beat.region.peers h),
   λ h. list_any-from_Any (λ (peer : Peer). nat_eq peer.id beat.leader && nat_eq peer.store store) beat.region.peers
       (weaker (λ (peer : Peer). (peer.id ≡ beat.leader) × (peer.store ≡ store)) (λ (peer : Peer). nat_eq peer.id beat.leader && nat_eq peer.store store ≡ true)
-      (λ peer is. join (nat_eq peer.id beat.leader) (nat_eq peer.store store) (equal peer.id beat.leader is.0) (equal peer.store store is.1)) beat.region.peers h),
+      (λ peer is. and_both (nat_eq peer.id beat.leader) (nat_eq peer.store store) (equal peer.id beat.leader is.0) (equal peer.store store is.1)) beat.region.peers h),
 )

@@ -1,11 +1,12 @@
 -- No id is taken twice.
-use Rattle.std.proofs.Common.{refl, ◌≡◌, ◌≢◌, ℕ, suc, ◌+◌, ◌<◌, ◌≤◌, ◌^◌, true, false, List, [], ◌∷◌, ◌++◌, All, ◌⊎◌, inl, inr, ap, sym, ◌∙◌, subst, arith}
+use Rattle.std.proofs.Common.{refl, ◌≡◌, ◌≢◌, ℕ, ◌+◌, ◌<◌, ◌≤◌, ◌^◌, true, false, List, [], ◌∷◌, ◌++◌, All, ◌⊎◌, inl, inr, ap, sym, ◌∙◌, subst, arith}
 use Rattle.std.specs.Fmt.{decimal}
 use Rattle.std.specs.List.{AllPairs}
 use Rattle.std.proofs.lemmas.Bool.Decides.{nat_tests}
 use Rattle.std.proofs.lemmas.List.Elements.{All-append, All-cons, All-head, All-tail, All-nil, All-push, All-weaker}
 use Rattle.std.proofs.lemmas.List.Kept.{AllPairs-cons}
 use Rattle.std.proofs.lemmas.List.Quantifiers.{all_pairs_push}
+use Rattle.pd_types.proofs.Pairs.{pairs_head, pairs_tail}
 use Rattle.meta_store.specs.declared.record.MetaCall.TheVariants as calls
 use Rattle.meta_store.specs.declared.record.MetaEntry.{MetaEntry}
 use Rattle.meta_store.specs.declared.record.MetaVerdict.{MetaVerdict}
@@ -53,12 +54,6 @@ all_replaced : {X : Type 0} (P Q : X → Type 0) (front : List X) (w v : X) (bac
 all_replaced P Q front w v back weaker new all =
     All-append Q front (v ∷ back) (All-weaker P Q weaker front (all_left P front (w ∷ back) all))
     (All-cons Q v back new (All-weaker P Q weaker back (All-tail P w back (all_right P front (w ∷ back) all))))
-
-pairs_head : {X : Type 0} (R : X → X → Type 0) (x : X) (xs : List X) → AllPairs R (x ∷ xs) → All (R x) xs
-pairs_head R x xs pairs k d low = pairs 0 (suc k) d (omega arith) (omega arith)
-
-pairs_tail : {X : Type 0} (R : X → X → Type 0) (x : X) (xs : List X) → AllPairs R (x ∷ xs) → AllPairs R xs
-pairs_tail R x xs pairs i j d less low = pairs (suc i) (suc j) d (omega arith) (omega arith)
 
 both_all : {X : Type 0} (P Q S : X → Type 0) (xs : List X) → ((x : X) → P x → Q x → S x) → All P xs → All Q xs → All S xs
 both_all P Q S xs make p q k d low = make _ (p k d low) (q k d low)

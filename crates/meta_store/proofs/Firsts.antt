@@ -2,12 +2,12 @@
 use Rattle.std.proofs.Common.{refl, ◌≡◌, ◌≢◌, ℕ, ◌+◌, ◌<◌, ◌≤◌, Bool, true, false, ◌&&◌, cond, nat_lt, List, ◌∷◌, Option, Some, None, ap, sym, ◌∙◌, arith}
 use Rattle.std.proofs.lemmas.Bool.{lt-ltb, le-ltb, eq-eqb, ne_eqb}
 use Rattle.std.proofs.lemmas.Bool.Decides.{nat_tests}
+use Rattle.pd_types.proofs.KeyLemmas.{equal_keys}
 use Rattle.meta_store.specs.declared.record.Cell.{Cell}
 use Rattle.meta_store.specs.declared.record.MetaCall.TheVariants as calls
 use Rattle.meta_store.specs.declared.record.MetaEntry.{MetaEntry}
 use Rattle.meta_store.specs.declared.record.MetaVerdict.TheVariants as verdicts
 use Rattle.meta_store.specs.Past.{announced, counter_of, entry_of, fence_of, is_accepted, is_of, left_by, lead_verdict, record_of, write_verdict}
-use Rattle.meta_store.proofs.Keys.{equal_keys}
 use Rattle.meta_store.proofs.Refines.{counted}
 
 pub lead_full : (fence counter term : ℕ) → fence ≤ term → lead_verdict fence counter 262144 term ≡ verdicts.Limit

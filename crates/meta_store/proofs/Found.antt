@@ -1,36 +1,15 @@
 -- The record of a key after a record is placed or taken out.
-use Rattle.std.proofs.Common.{refl, ◌≡◌, ℕ, Bool, true, false, not, cond, List, [], ◌∷◌, ap, sym, ◌∙◌, subst, Option, Some, None}
-use Rattle.std.proofs.lemmas.Bool.{true≢false}
+use Rattle.std.proofs.Common.{refl, ◌≡◌, ℕ, Bool, true, false, not, cond, List, ◌∷◌, ap, sym, ◌∙◌, subst, Option, Some, None}
 use Rattle.std.proofs.lemmas.List.Folds.{find-append}
-use Rattle.std.specs.List.{filter, find}
+use Rattle.std.specs.List.{filter}
 use Rattle.std.specs.Option.{option_or}
 use Rattle.std.specs.Str.{bytes_eq}
-use Rattle.pd_types.specs.BeatCheck.{is_below}
+use Rattle.pd_types.specs.Keys.{is_below}
+use Rattle.pd_types.proofs.Bools.{both}
+use Rattle.pd_types.proofs.KeyLemmas.{below_upto, equal_keys, neither_below, not_below_itself, other_keys, same_keys}
+use Rattle.pd_types.proofs.Filters.{find_gone, find_kept}
 use Rattle.meta_store.specs.declared.record.Cell.{Cell}
 use Rattle.meta_store.specs.Cells.{cell_at, placed, without}
-use Rattle.meta_store.proofs.Keys.{below_upto, both, equal_keys, neither_below, not_below_itself, other_keys, same_keys}
-
--- a filter that all whom the test finds pass
-pub find_kept : {X : Type 0} (p q : X → Bool) → ((x : X) → p x ≡ true → q x ≡ true) → (xs : List X) → find p (filter q xs) ≡ find p xs
-find_kept p q passes [] = refl
-find_kept p q passes (x ∷ xs) = by (p x) refl (q x) refl (find_kept p q passes xs)
-  where
-    by : (a : Bool) → p x ≡ a → (b : Bool) → q x ≡ b → find p (filter q xs) ≡ find p xs → find p (cond b (x ∷ filter q xs) (filter q xs)) ≡ cond a (Some x) (find p xs)
-    by true found true kept rest = rw found refl
-    by true found false gone rest = absurd (true≢false (sym (passes x found) ∙ gone))
-    by false other true kept rest = rw other rest
-    by false other false gone rest = rest
-
--- a filter that none whom the test finds passes
-pub find_gone : {X : Type 0} (p q : X → Bool) → ((x : X) → p x ≡ true → q x ≡ false) → (xs : List X) → find p (filter q xs) ≡ None
-find_gone p q fails [] = refl
-find_gone p q fails (x ∷ xs) = by (p x) refl (q x) refl (find_gone p q fails xs)
-  where
-    by : (a : Bool) → p x ≡ a → (b : Bool) → q x ≡ b → find p (filter q xs) ≡ None → find p (cond b (x ∷ filter q xs) (filter q xs)) ≡ None
-    by true found true kept rest = absurd (true≢false (sym kept ∙ fails x found))
-    by true found false gone rest = rest
-    by false other true kept rest = rw other rest
-    by false other false gone rest = rest
 
 or_none : {X : Type 0} (o : Option X) → option_or o None ≡ o
 or_none None = refl

@@ -2,7 +2,8 @@
 use Rattle.std.proofs.Common.{refl, ◌≡◌, ℕ, zero, suc, ◌<◌, Bool, true, false, cond, List, [], ◌∷◌, length, get_or, map, reverse, ap, sym, ◌∙◌, Option, Some, None, subst, arith}
 use Rattle.std.specs.Str.{bytes_eq}
 use Rattle.std.proofs.lemmas.List.{length-map, reverse-append}
-use Rattle.pd_types.specs.BeatCheck.{is_below}
+use Rattle.pd_types.specs.Keys.{is_below}
+use Rattle.pd_types.proofs.KeyLemmas.{equal_keys}
 use Rattle.meta_store.specs.declared.record.Cell.{Cell}
 use Rattle.meta_store.specs.declared.record.MetaAnswer.{MetaAnswer}
 use Rattle.meta_store.specs.declared.record.MetaEntry.{MetaEntry}
@@ -15,7 +16,6 @@ use Rattle.meta_store.specs.Doors.{answer_of, handed_out, heard, said_of}
 use Rattle.meta_store.specs.Past.{IsLegal, counter_of, entry_of, fence_of, is_accepted, is_of, is_write, record_of, revision_of, verdict_of}
 use Rattle.meta_store.specs.Known.{bare, kept_heard, kept_of, kept_told, known_revision, revision_heard, revision_told}
 use Rattle.meta_store.proofs.Found.{at_placed, at_without}
-use Rattle.meta_store.proofs.Keys.{equal_keys}
 use Rattle.meta_store.proofs.Refines.{counted, records_found, written_at}
 
 -- a record without its bytes has its revision

@@ -1,24 +1,19 @@
 -- Records by rising key, with one more and without one.
-use Rattle.std.proofs.Common.{◌≡◌, ℕ, suc, true, not, List, [], ◌∷◌, ◌++◌, get_or, arith, subst, sym, ◌⊎◌, inl, inr}
+use Rattle.std.proofs.Common.{◌≡◌, ℕ, true, not, List, [], ◌∷◌, ◌++◌, get_or, arith, subst, sym, ◌⊎◌, inl, inr}
 use Rattle.std.proofs.lemmas.Bool.{cases_eq}
 use Rattle.std.proofs.lemmas.List.Elements.{All-cons, All-head, All-tail, All-append, filter_passes}
 use Rattle.std.proofs.lemmas.List.Kept.{AllPairs-cons, AllPairs-filter}
 use Rattle.std.specs.List.{filter, All, AllPairs}
 use Rattle.std.specs.List.Sorted.{IsPartitionedBy}
 use Rattle.std.specs.Str.{bytes_eq}
-use Rattle.pd_types.specs.BeatCheck.{is_below}
+use Rattle.pd_types.specs.Keys.{is_below}
+use Rattle.pd_types.proofs.KeyLemmas.{below_trans}
+use Rattle.pd_types.proofs.Pairs.{pairs_head, pairs_tail}
 use Rattle.meta_store.specs.declared.record.Cell.{Cell}
 use Rattle.meta_store.specs.Cells.{AreRising, placed, without}
-use Rattle.meta_store.proofs.Keys.{below_trans}
 
 abbrev Precedes : Cell → Cell → Type 0
 Precedes one later = is_below one.key later.key ≡ true
-
-pairs_head : {X : Type 0} (R : X → X → Type 0) (x : X) (xs : List X) → AllPairs R (x ∷ xs) → All (R x) xs
-pairs_head R x xs pairs k d low = pairs 0 (suc k) d (omega arith) (omega arith)
-
-pairs_tail : {X : Type 0} (R : X → X → Type 0) (x : X) (xs : List X) → AllPairs R (x ∷ xs) → AllPairs R xs
-pairs_tail R x xs pairs i j d less low = pairs (suc i) (suc j) d (omega arith) (omega arith)
 
 pairs_append : {X : Type 0} (R : X → X → Type 0) (xs ys : List X) → AllPairs R xs → AllPairs R ys → All (λ x. All (R x) ys) xs → AllPairs R (xs ++ ys)
 pairs_append R [] ys first second between = second

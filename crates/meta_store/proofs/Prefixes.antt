@@ -1,8 +1,8 @@
 -- Keys that begin with a prefix.
 use Rattle.std.proofs.Common.{refl, ◌≡◌, ℕ, true, List, [], ◌∷◌, ◌++◌, length, take, drop, ap, sym, ◌∙◌}
 use Rattle.std.proofs.lemmas.List.{take-append-drop}
+use Rattle.pd_types.proofs.KeyLemmas.{equal_keys, same_keys}
 use Rattle.meta_store.specs.Cells.{begins_with}
-use Rattle.meta_store.proofs.Keys.{equal_keys, same_keys}
 
 front : (prefix rest : List ℕ) → take (length prefix) (prefix ++ rest) ≡ prefix
 front [] rest = refl

@@ -6,7 +6,8 @@ use Rattle.std.proofs.lemmas.List.Kept.{AllPairs-filter}
 use Rattle.std.proofs.lemmas.List.Sums.{count_by-le-length, sum_by-cons}
 use Rattle.std.specs.List.{filter}
 use Rattle.std.specs.Str.{bytes_eq}
-use Rattle.pd_types.specs.BeatCheck.{is_below}
+use Rattle.pd_types.specs.Keys.{is_below}
+use Rattle.pd_types.proofs.Filters.{find_gone, find_kept}
 use Rattle.meta_store.specs.declared.record.Cell.{Cell}
 use Rattle.meta_store.specs.declared.record.MetaCall.{MetaCall}
 use Rattle.meta_store.specs.declared.record.MetaCall.TheVariants as calls
@@ -19,7 +20,7 @@ use Rattle.meta_store.specs.Cells.{AreRising, begins_with, cell_at, revision_in}
 use Rattle.meta_store.specs.Past.{is_accepted, is_write, is_of, fence_of, counter_of, left_by, record_of, records_after, records_of, AreRecords, AreRecordsUnder, is_full, lead_verdict, write_verdict, verdict_of, IsLegal, entry_of, noted}
 use Rattle.meta_store.specs.Steps.{tables_of, verdict_by, stepped}
 use Rattle.meta_store.proofs.Order.{rising_none, rising_placed, rising_without}
-use Rattle.meta_store.proofs.Found.{at_placed, at_without, find_gone, find_kept, is_key}
+use Rattle.meta_store.proofs.Found.{at_placed, at_without, is_key}
 
 -- all records are by rising key
 rising_after : (call : MetaCall) (n : ℕ) (cells : List Cell) → AreRising cells → AreRising (records_after call n cells)

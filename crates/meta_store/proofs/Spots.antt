@@ -1,38 +1,14 @@
 -- What stands in a rising list at the place of a key.
 use Rattle.std.proofs.Common.{◌≡◌, ◌≢◌, ℕ, zero, suc, ◌+◌, ◌<◌, ◌≤◌, Bool, true, false, not, List, [], ◌∷◌, ◌++◌, length, get_or, take, drop, set, refl, ap, sym, ◌∙◌, arith, ◌⊎◌, inl, inr, subst, add-one, Some, None}
-use Rattle.std.proofs.lemmas.Grind.{common_steps}
 use Rattle.std.proofs.lemmas.Bool.{cases_lt, cases_eq}
-use Rattle.std.specs.List.{filter, find, insert}
+use Rattle.std.specs.List.{filter, insert}
 use Rattle.std.specs.Str.{bytes_eq}
-use Rattle.pd_types.specs.BeatCheck.{is_below}
+use Rattle.pd_types.specs.Keys.{is_below}
+use Rattle.pd_types.proofs.KeyLemmas.{above, above_other, below_other, below_trans, below_upto, equal_keys, not_below_itself}
+use Rattle.pd_types.proofs.Filters.{filter_all, filter_back, filter_front, find_first, find_none, only_place, set_parts}
 use Rattle.meta_store.specs.declared.record.Cell.{Cell}
 use Rattle.meta_store.specs.Cells.{AreRising, cell_at, placed, without}
 use Rattle.meta_store.specs.Places.{Parts, Stands}
-use Rattle.meta_store.proofs.Keys.{above, above_other, below_other, below_trans, below_upto, equal_keys, not_below_itself}
-
--- a test that all before the place pass, and none from there on
-filter_front : {X : Type 0} (p : X → Bool) (xs : List X) (i : ℕ) → ((k : ℕ) (d : X) → k < i → k < length xs → p (get_or xs k d) ≡ true) → ((k : ℕ) (d : X) → i ≤ k → k < length xs → p (get_or xs k d) ≡ false) → filter p xs ≡ take i xs
-filter_front p [] i passes fails = grind (arith, common_steps)
-filter_front p (x ∷ xs) zero passes fails =
-    let rest = filter_front p xs zero (λ k d low in_list. absurd (omega arith)) (λ k d low in_list. fails (suc k) d (omega arith) (omega arith)) in
-    rw (fails 0 x (omega arith) (omega arith)) (rest ∙ refl)
-filter_front p (x ∷ xs) (suc i) passes fails =
-    let rest = filter_front p xs i (λ k d low in_list. passes (suc k) d (omega arith) (omega arith)) (λ k d low in_list. fails (suc k) d (omega arith) (omega arith)) in
-    rw (passes 0 x (omega arith) (omega arith)) (ap (λ ys. x ∷ ys) rest)
-
--- a test that none before the place passes, and all from there on
-filter_back : {X : Type 0} (p : X → Bool) (xs : List X) (i : ℕ) → ((k : ℕ) (d : X) → k < i → k < length xs → p (get_or xs k d) ≡ false) → ((k : ℕ) (d : X) → i ≤ k → k < length xs → p (get_or xs k d) ≡ true) → filter p xs ≡ drop i xs
-filter_back p [] i fails passes = grind (arith, common_steps)
-filter_back p (x ∷ xs) zero fails passes =
-    let rest = filter_back p xs zero (λ k d low in_list. absurd (omega arith)) (λ k d low in_list. passes (suc k) d (omega arith) (omega arith)) in
-    rw (passes 0 x (omega arith) (omega arith)) (ap (λ ys. x ∷ ys) rest)
-filter_back p (x ∷ xs) (suc i) fails passes =
-    let rest = filter_back p xs i (λ k d low in_list. fails (suc k) d (omega arith) (omega arith)) (λ k d low in_list. passes (suc k) d (omega arith) (omega arith)) in
-    rw (fails 0 x (omega arith) (omega arith)) rest
-
-filter_all : {X : Type 0} (p : X → Bool) (xs : List X) → ((k : ℕ) (d : X) → k < length xs → p (get_or xs k d) ≡ true) → filter p xs ≡ xs
-filter_all p [] passes = refl
-filter_all p (x ∷ xs) passes = rw (passes 0 x (omega arith)) (ap (λ ys. x ∷ ys) (filter_all p xs (λ k d low. passes (suc k) d (omega arith))))
 
 -- a test that one alone fails
 filter_one : {X : Type 0} (p : X → Bool) (xs : List X) (i : ℕ) → i < length xs → ((k : ℕ) (d : X) → k < length xs → k ≢ i → p (get_or xs k d) ≡ true) → ((d : X) → p (get_or xs i d) ≡ false) → filter p xs ≡ take i xs ++ drop (suc i) xs
@@ -41,17 +17,6 @@ filter_one p (x ∷ xs) zero inside passes fails =
     rw (fails x) (filter_all p xs (λ k d low. passes (suc k) d (omega arith) (omega arith)))
 filter_one p (x ∷ xs) (suc i) inside passes fails =
     rw (passes 0 x (omega arith) (omega arith)) (ap (λ ys. x ∷ ys) (filter_one p xs i (omega arith) (λ k d low other. passes (suc k) d (omega arith) (omega arith)) (λ d. fails d)))
-
--- the first that passes
-find_first : {X : Type 0} (p : X → Bool) (xs : List X) (i : ℕ) (d : X) → i < length xs → ((k : ℕ) (e : X) → k < i → p (get_or xs k e) ≡ false) → p (get_or xs i d) ≡ true → find p xs ≡ Some (get_or xs i d)
-find_first p [] i d inside fails passes = absurd (omega arith)
-find_first p (x ∷ xs) zero d inside fails passes = rw passes refl
-find_first p (x ∷ xs) (suc i) d inside fails passes =
-    rw (fails 0 x (omega arith)) (find_first p xs i d (omega arith) (λ k e low. fails (suc k) e (omega arith)) passes)
-
-find_none : {X : Type 0} (p : X → Bool) (xs : List X) → ((k : ℕ) (e : X) → k < length xs → p (get_or xs k e) ≡ false) → find p xs ≡ None
-find_none p [] fails = refl
-find_none p (x ∷ xs) fails = rw (fails 0 x (omega arith)) (find_none p xs (λ k e low. fails (suc k) e (omega arith)))
 
 -- at its place stands the key's record
 pub cell_found : {key : List ℕ} {xs : List Cell} {i : ℕ} (d : Cell) → Stands key xs i → cell_at key xs ≡ Some (get_or xs i d)
@@ -82,14 +47,6 @@ placed_parts {xs} {i} {rest} e parts ordered same =
 
 pub placed_new : {xs : List Cell} {i : ℕ} (e : Cell) → Parts e.key xs i i → placed e xs ≡ insert xs i e
 placed_new {xs} {i} e parts = placed_parts e parts (omega arith) (λ k d high low in_list. absurd (omega arith))
-
-set_parts : {X : Type 0} (xs : List X) (i : ℕ) (y : X) → i < length xs → set xs i y ≡ take i xs ++ (y ∷ drop (suc i) xs)
-set_parts [] i y inside = absurd (omega arith)
-set_parts (x ∷ xs) zero y inside = grind (arith, common_steps)
-set_parts (x ∷ xs) (suc i) y inside = ap (λ ys. x ∷ ys) (set_parts xs i y (omega arith))
-
-only_place : {X : Type 0} (xs : List X) (i k : ℕ) (d : X) (P : X → Type 0) → i ≡ k → P (get_or xs i d) → P (get_or xs k d)
-only_place xs i k d P same p = subst (λ j. P (get_or xs j d)) same p
 
 pub placed_known : {xs : List Cell} {i : ℕ} (e : Cell) → Stands e.key xs i → placed e xs ≡ set xs i e
 placed_known {xs} {i} e stands =

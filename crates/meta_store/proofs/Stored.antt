@@ -1,5 +1,5 @@
 -- Stores are read as they are written.
-use Rattle.std.proofs.Common.{refl, ◌≡◌, ℕ, zero, suc, ◌+◌, ◌-◌, ◌<◌, ◌≤◌, ◌^◌, Bool, true, false, cond, not, ◌&&◌, nat_eq, nat_lt, List, [], ◌∷◌, ◌++◌, length, map, take, drop, get_or, replicate, All, Option, Some, None, ap, sym, ◌∙◌, subst, append_assoc, append-nil, arith}
+use Rattle.std.proofs.Common.{refl, ◌≡◌, ℕ, zero, suc, ◌+◌, ◌-◌, ◌<◌, ◌≤◌, ◌^◌, Bool, true, false, cond, ◌&&◌, nat_eq, nat_lt, List, [], ◌∷◌, ◌++◌, length, map, take, drop, get_or, replicate, All, Option, Some, None, ap, sym, ◌∙◌, subst, append_assoc, append-nil, arith}
 use Rattle.std.specs.Prelude.{codes}
 use Rattle.std.specs.Fmt.{char_count, decimal, format_spec, padded_integral}
 use Rattle.std.specs.List.{join_with_byte, list_any, slice_split}
@@ -16,12 +16,12 @@ use Rattle.pd_types.specs.declared.store.Label.{Label}
 use Rattle.pd_types.specs.declared.store.StoreRec.{StoreRec}
 use Rattle.pd_types.specs.declared.store.StoreState.{StoreState}
 use Rattle.pd_types.specs.declared.store.StoreState.TheVariants.{Up, Offline, Tombstone}
+use Rattle.pd_types.proofs.KeyLemmas.{equal_keys, same_keys}
 use Rattle.pd_lines.specs.Labels.{AreLabels, labels_of, labels_text, label_text}
 use Rattle.pd_lines.specs.Plain.{address_of, is_plain}
 use Rattle.pd_lines.proofs.Cutting.{both_true}
 use Rattle.pd_lines.proofs.Listing.{cut_again, labels_read, labels_written, no_labels, plain_lacks_space, text_lacks_space, then_some, when_some}
 use Rattle.meta_store.specs.Stores.{Fields, IsStore, fields_by, fields_of, id_of, key_value, labels_word, state_of, state_word, store_by, store_bytes, store_key, store_of, stored_labels, twenty}
-use Rattle.meta_store.proofs.Keys.{equal_keys, same_keys}
 
 -- zeros in front change no value
 zeros_digits : (k : ℕ) (ds : List ℕ) → AllDigits 10 ds → AllDigits 10 (replicate k 48 ++ ds)
@@ -293,11 +293,3 @@ one_put front now new labels (suc i) label within is here first next =
 -- what a slice from 6 on is seen as
 pub behind : (key : List ℕ) → take (length key - 6) (drop 6 key) ≡ drop 6 key
 behind key = take_all _ _ (omega (arith, length-drop 6 key))
-
-pub not_true : (b : Bool) → not b ≡ true → b ≡ false
-not_true true is = absurd cc
-not_true false is = refl
-
-pub not_false : (b : Bool) → not b ≡ false → b ≡ true
-not_false true is = refl
-not_false false is = absurd cc

@@ -2,7 +2,7 @@
 use Rattle.std.specs.Prelude.{◌≡◌, ℕ, nat_eq, Bool, true, not, List, ◌∷◌, ◌++◌, Option, Some, None, filter, find, AllPairs}
 use Rattle.std.specs.List.{starts_with}
 use Rattle.std.specs.Str.{bytes_eq}
-use Rattle.pd_types.specs.BeatCheck.{is_below}
+use Rattle.pd_types.specs.Keys.{is_below}
 use Rattle.meta_store.specs.declared.record.Cell.{Cell}
 
 -- each record has a lesser key than those behind it, byte by byte

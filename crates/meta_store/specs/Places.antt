@@ -1,6 +1,6 @@
 -- Places of keys in a rising list. Private contracts alone cite this.
 use Rattle.std.specs.Prelude.{◌≡◌, ℕ, ◌+◌, ◌<◌, ◌≤◌, true, List, length, slice_index_or}
-use Rattle.pd_types.specs.BeatCheck.{is_below}
+use Rattle.pd_types.specs.Keys.{is_below}
 use Rattle.meta_store.specs.declared.record.Cell.{Cell}
 
 -- the keys before the place are lesser, and those from `rest` on are greater

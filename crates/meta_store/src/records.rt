@@ -1,6 +1,6 @@
 // The records by rising key.
 ghost use Rattle.std.specs.Prelude.{◌≡◌, ◌+◌, ◌<◌, ◌≤◌, ℕ, [], true, false, filter, length, map, slice_index_or, option_copied, IfOk, IfErr, OnOk, OnErr};
-ghost use Rattle.pd_types.specs.BeatCheck.{is_below};
+ghost use Rattle.pd_types.specs.Keys.{is_below};
 ghost use Rattle.meta_store.specs.declared.record.Cell.{Cell};
 ghost use Rattle.meta_store.specs.Cells.{AreRising, begins_with, cell_at, placed, without};
 ghost use Rattle.meta_store.specs.Known.{bare};

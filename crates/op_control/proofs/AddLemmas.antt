@@ -1,20 +1,21 @@
 -- What follows where no refusal applies.
 use Rattle.std.proofs.Common.{◌≡◌, ℕ, Bool, true, false, cond, refl, Option, Some, None}
 use Rattle.pd_types.specs.declared.region.RegionBeat.{RegionBeat}
+use Rattle.std.specs.Option.{option_or}
 use Rattle.store_limit.specs.declared.limits.Limited.{Limited}
 use Rattle.store_limit.specs.Limits.{StoreLimits}
 use Rattle.op_control.specs.declared.operator.NewOp.{NewOp}
 use Rattle.op_control.specs.declared.operator.Operator.{Operator}
-use Rattle.op_control.specs.declared.table.AddFault.{AddFault}
+use Rattle.op_control.specs.declared.adding.AddFault.{AddFault}
 use Rattle.op_control.specs.Table.{Table}
 use Rattle.op_control.specs.Charging.{first_refused}
-use Rattle.op_control.specs.Adding.{or_next, refusal_of, room_refusal}
+use Rattle.op_control.specs.Adding.{refusal_of, room_refusal}
 
 cond-none : (b : Bool) (fault : AddFault) (rest : Option AddFault) → cond b (Some fault) rest ≡ None → rest ≡ None
 cond-none true fault rest e = cc
 cond-none false fault rest e = e
 
-or-none : (first rest : Option AddFault) → or_next first rest ≡ None → rest ≡ None
+or-none : (first rest : Option AddFault) → option_or first rest ≡ None → rest ≡ None
 or-none (Some fault) rest e = cc
 or-none None rest e = e
 

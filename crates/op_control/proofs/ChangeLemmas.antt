@@ -4,6 +4,7 @@ use Rattle.std.proofs.lemmas.Bool.{false≢true}
 use Rattle.std.specs.Option.{option_map}
 use Rattle.std.specs.Ordering.{nat_cmp}
 use Rattle.std.specs.FinMap as map
+use Rattle.id_map.proofs.Inserted.{same-insert}
 use Rattle.op_control.specs.declared.operator.Operator.{Operator}
 use Rattle.op_control.specs.declared.operator.OpState.{OpState}
 use Rattle.op_control.specs.declared.operator.OpState.TheVariants.{Canceled}
@@ -11,7 +12,6 @@ use Rattle.op_control.specs.Changes.{LivesOn}
 use Rattle.op_control.specs.Life.{is_active, RegionLeft}
 use Rattle.op_control.specs.Table.{active_at, active_by, cancel, canceled, Table}
 use Rattle.op_control.proofs.LifeLemmas.{gone-by}
-use Rattle.op_control.proofs.TableLemmas.{same-insert}
 
 only-state : (b : Bool) (op found : Operator) → is_active op.state ≡ b → cond b (Some op) None ≡ Some found → IsTrue (is_active found.state)
 only-state true op found is e = let same : op ≡ found = cc in subst (λ (o : Operator). IsTrue (is_active o.state)) same is

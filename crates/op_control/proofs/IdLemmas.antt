@@ -3,12 +3,13 @@ use Rattle.std.proofs.Common.{◌≡◌, ℕ, List, [], ◌∷◌, map, refl, ap
 use Rattle.pd_types.specs.declared.region.RegionBeat.{RegionBeat}
 use Rattle.pd_types.specs.declared.step.Step.{Step}
 use Rattle.pd_types.specs.declared.step.Step.TheVariants as steps
+use Rattle.std.specs.Option.{option_or}
 use Rattle.store_limit.specs.Limits.{StoreLimits}
 use Rattle.op_step.specs.Wishes.{step_with}
 use Rattle.op_control.specs.declared.operator.NewOp.{NewOp}
 use Rattle.op_control.specs.declared.operator.Operator.{Operator}
 use Rattle.op_control.specs.Table.{Table, active_at}
-use Rattle.op_control.specs.Charging.{charge_of, charged_by, first_refused, or_later, refused_by}
+use Rattle.op_control.specs.Charging.{charge_of, charged_by, first_refused, refused_by}
 use Rattle.op_control.specs.Adding.{priority_refusal, refusal_of, with_new_id}
 
 same-charge : (id : ℕ) (step : Step) → charge_of (step_with id step) ≡ charge_of step
@@ -20,8 +21,8 @@ same-charge id (steps.RemovePeer peer store) = refl
 pub same-refused : (id : ℕ) (list : List Step) (limits : StoreLimits) (now : ℕ) → first_refused (map (step_with id) list) limits now ≡ first_refused list limits now
 same-refused id [] limits now = refl
 same-refused id (step ∷ more) limits now =
-    ap (λ charge. or_later (refused_by charge limits now) (first_refused (map (step_with id) more) (charged_by charge limits now) now)) (same-charge id step)
-    ∙ ap (or_later (refused_by (charge_of step) limits now)) (same-refused id more (charged_by (charge_of step) limits now) now)
+    ap (λ charge. option_or (refused_by charge limits now) (first_refused (map (step_with id) more) (charged_by charge limits now) now)) (same-charge id step)
+    ∙ ap (option_or (refused_by (charge_of step) limits now)) (same-refused id more (charged_by (charge_of step) limits now) now)
 
 same-priority : (active : Option Operator) (op : NewOp) (id : ℕ) → priority_refusal active (with_new_id op id) ≡ priority_refusal active op
 same-priority None op id = refl

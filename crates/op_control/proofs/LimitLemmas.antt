@@ -4,6 +4,7 @@ use Rattle.std.proofs.lemmas.Bool.{cases_eq, eq-eqb, ne_eqb}
 use Rattle.std.specs.Option.{option_map_or}
 use Rattle.std.specs.FinMap as map
 use Rattle.pd_types.specs.declared.step.Step.{Step}
+use Rattle.id_map.proofs.Inserted.{get-insert}
 use Rattle.store_limit.specs.declared.bucket.TheConstants.{PEER_UNITS}
 use Rattle.store_limit.specs.declared.bucket.Buckets.{Buckets}
 use Rattle.store_limit.specs.declared.limits.LimitKind.{LimitKind}
@@ -12,7 +13,6 @@ use Rattle.store_limit.specs.Level.{Level, available_at, cap_of, charged}
 use Rattle.store_limit.specs.Limits.{StoreLimits, available_in, changed_by, level_of, with_level}
 use Rattle.op_control.specs.Charging.{after_charges, charge_of, charged_by}
 use Rattle.op_control.specs.Counting.{count_same, is_same, same_kind}
-use Rattle.op_control.proofs.TableLemmas.{get-insert}
 
 -- a charge takes a peer's units at once
 available-charged : (level : Level) (now : ℕ) → available_at (charged level now) now ≡ available_at level now - PEER_UNITS

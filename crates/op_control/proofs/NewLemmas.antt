@@ -5,6 +5,7 @@ use Rattle.std.proofs.lemmas.Bool.{ne_eqb}
 use Rattle.std.proofs.lemmas.List.Elements.{All-nil, All-cons}
 use Rattle.pd_types.specs.declared.region.RegionBeat.{RegionBeat}
 use Rattle.pd_types.specs.declared.step.Step.{Step}
+use Rattle.id_map.proofs.Inserted.{get-insert, same-insert}
 use Rattle.store_table.specs.declared.entry.StoreEntry.{StoreEntry}
 use Rattle.op_step.specs.Finished.{is_finished}
 use Rattle.op_control.specs.declared.operator.NewOp.{NewOp}
@@ -13,7 +14,6 @@ use Rattle.op_control.specs.Adding.{added, created}
 use Rattle.op_control.specs.Table.{Table, active_at, active_by}
 use Rattle.op_control.specs.Told.{IsNextStep}
 use Rattle.op_control.specs.Turn.{finished_count, turned}
-use Rattle.op_control.proofs.TableLemmas.{get-insert, same-insert}
 use Rattle.op_control.proofs.ToldLemmas.{is-next}
 
 pub new_at : (table : Table) (op : NewOp) (now : ℕ) → active_at (added table op now) op.region ≡ Some (created op now)

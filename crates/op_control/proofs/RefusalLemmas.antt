@@ -3,13 +3,14 @@ use Rattle.std.proofs.Common.{refl, ◌≡◌, ◌≢◌, ℕ, ◌+◌, ◌<◌,
 use Rattle.std.proofs.lemmas.Bool.Decides.{nat_tests}
 use Rattle.pd_types.specs.declared.region.Epoch.{Epoch}
 use Rattle.pd_types.specs.declared.region.RegionBeat.{RegionBeat}
+use Rattle.std.specs.Option.{option_or}
 use Rattle.store_limit.specs.declared.limits.Limited.{Limited}
 use Rattle.store_limit.specs.Limits.{StoreLimits}
 use Rattle.op_control.specs.declared.operator.NewOp.{NewOp}
 use Rattle.op_control.specs.declared.operator.Operator.{Operator}
-use Rattle.op_control.specs.declared.table.AddFault.{AddFault}
-use Rattle.op_control.specs.declared.table.AddFault.TheVariants as faults
-use Rattle.op_control.specs.Adding.{added, busy_with, or_next, priority_refusal, refusal_of, room_refusal, same_epoch}
+use Rattle.op_control.specs.declared.adding.AddFault.{AddFault}
+use Rattle.op_control.specs.declared.adding.AddFault.TheVariants as faults
+use Rattle.op_control.specs.Adding.{added, busy_with, priority_refusal, refusal_of, room_refusal, same_epoch}
 use Rattle.op_control.specs.Charging.{first_refused}
 use Rattle.op_control.specs.Table.{Table, active_at, joined}
 
@@ -78,7 +79,7 @@ one_more region (x ∷ xs) = by (nat_lt region x) (one_more region xs)
     by true rest = omega arith
     by false rest = omega (arith, rest)
 
-room_left : (b : Bool) (active : Option Operator) (op : NewOp) (refused : Option Limited) (fault : AddFault) (busy : List ℕ) → length busy ≤ 1024 → cond (not b) (Some fault) (or_next (priority_refusal active op) (room_refusal refused active (length busy))) ≡ None → length (busy_with active op.region busy) ≤ 1024
+room_left : (b : Bool) (active : Option Operator) (op : NewOp) (refused : Option Limited) (fault : AddFault) (busy : List ℕ) → length busy ≤ 1024 → cond (not b) (Some fault) (option_or (priority_refusal active op) (room_refusal refused active (length busy))) ≡ None → length (busy_with active op.region busy) ≤ 1024
 room_left false active op refused fault busy few h = absurd (cc)
 room_left true (Some active) op refused fault busy few h = few
 room_left true None op (Some limit) fault busy few h = absurd (cc)

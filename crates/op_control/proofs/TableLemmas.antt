@@ -1,23 +1,14 @@
 -- The list of busy regions stays that of the operators that haven't ended.
-use Rattle.std.proofs.Common.{◌≡◌, ◌==◌, ℕ, Bool, true, false, cond, ◌||◌, List, [], refl, sym, ap, ◌∙◌, ⊎_elim, eqb, Option, Some, None, is_some, IsSome}
+use Rattle.std.proofs.Common.{◌≡◌, ◌==◌, ℕ, Bool, true, false, cond, ◌||◌, List, [], refl, sym, ap, ◌∙◌, ⊎_elim, eqb, Option, Some, None, is_some}
 use Rattle.std.proofs.lemmas.Bool.{cases_eq, eq-eqb, ne_eqb, false≢true}
 use Rattle.std.specs.List.{list_any}
 use Rattle.std.specs.Ordering.{nat_cmp}
-use Rattle.std.specs.Cmp.{nat_cmp_total, unsigned_tied}
 use Rattle.std.specs.FinMap as map
+use Rattle.id_map.proofs.Inserted.{get-insert}
 use Rattle.op_control.specs.declared.operator.Operator.{Operator}
 use Rattle.op_control.specs.Life.{is_active}
 use Rattle.op_control.specs.Table.{active_by, joined, without, IsListed}
 use Rattle.op_control.proofs.ListLemmas.{any-joined, any-without, rising-joined, rising-without}
-
-pub get-insert : {X : Type 0} (m : map.FinMap nat_cmp X) (k : ℕ) (v : X) (q : ℕ) → map.get (map.insert m k v) q ≡ cond (eqb q k) (Some v) (map.get m q)
-get-insert m k v q = map.get-insert nat_cmp_total m k v q ∙ ap (λ b. cond b (Some v) (map.get m q)) (unsigned_tied q k)
-
-pub known-insert : {X : Type 0} (m : map.FinMap nat_cmp X) (k : ℕ) (v : X) → IsSome (map.get (map.insert m k v) k)
-known-insert m k v = ap is_some (get-insert m k v k ∙ ap (λ b. cond b (Some v) (map.get m k)) (eq-eqb k k refl))
-
-pub same-insert : {X : Type 0} (m : map.FinMap nat_cmp X) (k : ℕ) (v : X) → map.get (map.insert m k v) k ≡ Some v
-same-insert m k v = get-insert m k v k ∙ ap (λ b. cond b (Some v) (map.get m k)) (eq-eqb k k refl)
 
 some-if : {X : Type 0} (b : Bool) (x : X) → is_some (cond b (Some x) None) ≡ b
 some-if true x = refl

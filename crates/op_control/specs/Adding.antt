@@ -3,15 +3,16 @@ use Rattle.std.specs.Prelude.{◌≡◌, ℕ, nat_le, ◌&&◌, ◌==◌, not, B
 use Rattle.std.specs.FinMap as finmap
 use Rattle.pd_types.specs.declared.region.Epoch.{Epoch}
 use Rattle.pd_types.specs.declared.region.RegionBeat.{RegionBeat}
+use Rattle.std.specs.Option.{option_or}
 use Rattle.op_step.specs.Wishes.{step_with}
 use Rattle.store_limit.specs.declared.limits.Limited.{Limited}
 use Rattle.store_limit.specs.Limits.{StoreLimits}
 use Rattle.op_control.specs.declared.operator.NewOp.{NewOp}
 use Rattle.op_control.specs.declared.operator.Operator.{Operator}
 use Rattle.op_control.specs.declared.operator.OpState.TheVariants.{Created}
-use Rattle.op_control.specs.declared.table.TheConstants.{MOST_OPERATORS}
-use Rattle.op_control.specs.declared.table.AddFault.{AddFault}
-use Rattle.op_control.specs.declared.table.AddFault.TheVariants as faults
+use Rattle.op_control.specs.declared.adding.TheConstants.{MOST_OPERATORS}
+use Rattle.op_control.specs.declared.adding.AddFault.{AddFault}
+use Rattle.op_control.specs.declared.adding.AddFault.TheVariants as faults
 use Rattle.op_control.specs.Table.{Table, active_at, joined}
 use Rattle.op_control.specs.Charging.{first_refused}
 
@@ -30,17 +31,12 @@ abbrev pub priority_refusal : Option Operator → NewOp → Option AddFault
 priority_refusal None op = None
 priority_refusal (Some active) op = if nat_le op.priority active.priority then Some (faults.Busy active.priority) else None
 
--- the first of two refusals
-abbrev pub or_next : Option AddFault → Option AddFault → Option AddFault
-or_next (Some fault) next = Some fault
-or_next None next = next
-
 -- the first of the five refusals that applies, where the region is held with this heartbeat
 abbrev pub refusal_of : Table → NewOp → Option RegionBeat → StoreLimits → ℕ → Option AddFault
 refusal_of table op None limits now = Some faults.NoRegion
 refusal_of table op (Some beat) limits now =
     if not (same_epoch op.epoch beat.region.epoch) then Some (faults.EpochMoved beat.region.epoch)
-    else or_next (priority_refusal (active_at table op.region) op) (room_refusal (first_refused op.steps limits now) (active_at table op.region) (length table.busy))
+    else option_or (priority_refusal (active_at table op.region) op) (room_refusal (first_refused op.steps limits now) (active_at table op.region) (length table.busy))
 
 -- the operator with this id in the place of its new peer's
 abbrev pub with_new_id : NewOp → ℕ → NewOp

@@ -2,6 +2,7 @@
 use Rattle.std.specs.Prelude.{ℕ, nat_lt, List, [], ◌∷◌, if◌then◌else◌, Option, Some, None}
 use Rattle.pd_types.specs.declared.step.Step.{Step}
 use Rattle.pd_types.specs.declared.step.Step.TheVariants as steps
+use Rattle.std.specs.Option.{option_or}
 use Rattle.store_limit.specs.declared.bucket.TheConstants.{PEER_UNITS}
 use Rattle.store_limit.specs.declared.limits.LimitKind.{LimitKind}
 use Rattle.store_limit.specs.declared.limits.LimitKind.TheVariants as kinds
@@ -34,13 +35,8 @@ abbrev pub refused_by : Option (LimitKind × ℕ) → StoreLimits → ℕ → Op
 refused_by None limits now = None
 refused_by (Some charge) limits now = refused_at (available_in limits charge.1 charge.0 now)
 
--- the first of two refusals
-abbrev pub or_later : Option Limited → Option Limited → Option Limited
-or_later (Some limited) later = Some limited
-or_later None later = later
-
 -- the first step that a store's limit refuses, after the charges of the steps before it
 abbrev pub first_refused : List Step → StoreLimits → ℕ → Option Limited
 first_refused [] limits now = None
 first_refused (step ∷ more) limits now =
-    or_later (refused_by (charge_of step) limits now) (first_refused more (charged_by (charge_of step) limits now) now)
+    option_or (refused_by (charge_of step) limits now) (first_refused more (charged_by (charge_of step) limits now) now)

@@ -10,7 +10,7 @@ ghost use Rattle.store_limit.specs.Limits.{StoreLimits, available_in, taken};
 ghost use Rattle.op_control.specs.declared.operator.NewOp.{NewOp};
 ghost use Rattle.op_control.specs.declared.operator.Operator.{Operator};
 ghost use Rattle.op_control.specs.declared.operator.OpState.TheVariants.{Created, Started};
-ghost use Rattle.op_control.specs.declared.table.AddFault.TheVariants as faults;
+ghost use Rattle.op_control.specs.declared.adding.AddFault.TheVariants as faults;
 ghost use Rattle.op_control.specs.declared.turn.Dispatch.TheVariants as dispatch;
 ghost use Rattle.op_control.specs.Table.{Table, active_at};
 ghost use Rattle.op_control.specs.Turn.{answer_of, conf_changes, turned};

@@ -1,17 +1,18 @@
 // The operators of a term.
-ghost use Rattle.std.specs.Prelude.{◌≡◌, ◌==◌, false, true, ◌↔◌, ◌^◌, ◌<◌, ◌≤◌, [], None, Some, IfErr, IsErr, OnErr, IsOk, OnOk, IsSome, IsSomeAnd, IsTrue, insert, length, option_map, not};
+ghost use Rattle.std.specs.Prelude.{◌≡◌, ◌==◌, false, true, ◌↔◌, ◌^◌, ◌<◌, [], None, Some, IfErr, IsErr, OnErr, OnOk, IsSome, IsSomeAnd, IsTrue, length};
 ghost use Rattle.std.specs.Option.{option_copied};
 ghost use Rattle.std.specs.FinMap as map;
 ghost use Rattle.op_control.specs.Adding.{added, busy_with, created, priority_refusal, refusal_of, room_refusal, same_epoch, RefusedBy};
 ghost use Rattle.op_control.specs.Changes.{LivesBy, LivesOn, Replaces, SendsSafe};
 ghost use Rattle.op_control.specs.Charging.{after_charges, first_refused};
 ghost use Rattle.op_control.specs.Life.{is_active, RegionLeft, Removed};
-ghost use Rattle.op_control.specs.Table.{active_at, active_by, canceled, cancel, dispatch_answer, dispatched, joined, op_at, state_of, without, with_op, IsListed};
+ghost use Rattle.op_control.specs.Table.{active_at, active_by, canceled, dispatch_answer, dispatched, joined, op_at, state_of, without, IsListed};
 ghost use Rattle.op_control.specs.Told.{Tells};
 ghost use Rattle.op_control.specs.Written.{progressed};
 ghost use Rattle.std.specs.List.{list_any};
-ghost use Rattle.op_control.specs.declared.table.AddFault.TheVariants as faults;
 
+use crate::adding::{AddFault, created, priority_refusal, room_refusal, same_epoch};
+use crate::busy::{join, unlist};
 use crate::charging::{charge_all, first_refused};
 use crate::operator::{NewOp, OpState, Operator};
 use crate::turn::{Dispatch, Progress, advance};
@@ -19,35 +20,9 @@ use id_map::IdMap;
 use pd_types::{Epoch, Ids, NoMemory, RegionBeat, Seq, Text};
 use std::alloc::Global;
 use std::marker::Model;
-use std::mem;
-use store_limit::{Limited, Limits};
+use store_limit::Limits;
 use store_table::Stores;
 use thiserror::Error;
-
-/// At most this many regions have an operator at once.
-pub const MOST_OPERATORS: usize = 1024;
-
-/// Why an operator isn't added, in the order of the tests.
-#[derive(Clone, Copy, Debug, PartialEq, Eq, Error)]
-pub enum AddFault {
-    /// The region isn't held.
-    #[error("the region isn't held")]
-    NoRegion,
-    /// The operator was made for another epoch than the held one.
-    #[error("the region has another epoch")]
-    EpochMoved { kept: Epoch },
-    /// The region's operator has at least this priority.
-    #[error("the region has an operator of priority {priority}")]
-    Busy { priority: u8 },
-    /// A store's limit refuses one of the steps.
-    #[error("a store limit has {available} of {needed} units")]
-    Limited { available: u64, needed: u64 },
-    /// 1,024 regions have an operator, and none is replaced.
-    #[error("1024 regions have an operator")]
-    Limit,
-    #[error("out of memory")]
-    NoMemory,
-}
 
 /// The region has no operator that hasn't ended.
 #[derive(Clone, Copy, Debug, PartialEq, Eq, Error)]
@@ -123,96 +98,6 @@ fn write(last: &mut IdMap<Operator>, alloc: Global, region: u64, progress: Progr
     last.set(region, op);
 }
 
-// Takes a region off the list.
-fn unlist(busy: &mut Ids, alloc: Global, region: u64)
-    ensures { busy.new ≡ without region busy.old }
-{
-    let mut ids = mem::replace(busy, Seq::new(alloc)).into_vec();
-    ids.retain(|one| *one != region);
-    *busy = Seq::of(ids);
-}
-
-// How many of the ids stand before the first that is greater.
-fn place_of(busy: &[u64], region: u64) -> usize
-    ensures bound { result ≤ length busy.now }
-    ensures value { insert busy.now result region ≡ joined region busy.now }
-{
-    let mut place = 0;
-    for one in busy {
-        if region < *one {
-            return place;
-        }
-        place += 1;
-    }
-    place
-}
-
-fn same_epoch(one: &Epoch, other: &Epoch) -> bool
-    ensures { result ≡ same_epoch one.now other.now }
-{
-    one.conf_ver == other.conf_ver && one.version == other.version
-}
-
-fn priority_refusal(active: Option<&Operator>, op: &NewOp) -> Option<AddFault>
-    ensures { result ≡ priority_refusal (option_copied active.entry) op.now }
-{
-    match active {
-        Some(active) if op.priority <= active.priority => Some(AddFault::Busy {
-            priority: active.priority,
-        }),
-        _ => None,
-    }
-}
-
-fn room_refusal(
-    limited: Option<Limited>,
-    active: Option<&Operator>,
-    count: usize,
-) -> Option<AddFault>
-    ensures { result ≡ room_refusal limited (option_copied active.entry) count }
-{
-    if let Some(limited) = limited {
-        return Some(AddFault::Limited {
-            available: limited.available,
-            needed: limited.needed,
-        });
-    }
-    if active.is_none() && count >= MOST_OPERATORS {
-        Some(AddFault::Limit)
-    } else {
-        None
-    }
-}
-
-// The operator as it is created.
-fn created(op: NewOp, now: u64) -> Operator
-    ensures { result ≡ created op now }
-{
-    Operator {
-        region: op.region,
-        epoch: op.epoch,
-        kind: op.kind,
-        priority: op.priority,
-        steps: op.steps,
-        passed: 0,
-        state: OpState::Created,
-        created: now,
-        started: 0,
-    }
-}
-
-// Puts a region on the list. Want of memory leaves it.
-fn join(busy: &mut Ids, alloc: Global, region: u64) -> Result<(), NoMemory>
-    ensures ok { OnOk result (busy.new ≡ joined region busy.old) }
-    ensures err { OnErr result (busy.new ≡ busy.old) }
-{
-    let place = place_of(busy.as_slice(), region);
-    let mut ids = mem::replace(busy, Seq::new(alloc)).into_vec();
-    let inserted = ids.insert(place, region).is_ok();
-    *busy = Seq::of(ids);
-    if inserted { Ok(()) } else { Err(NoMemory) }
-}
-
 // Gives a region that has no operator a new one. Want of memory leaves both.
 fn put_new(
     last: &mut IdMap<Operator>,
@@ -273,14 +158,6 @@ fn charge_stored(last: &IdMap<Operator>, region: u64, limits: &mut Limits, now: 
 {
     if let Some(stored) = last.get(region) {
         charge_all(stored.steps.as_slice(), limits, now);
-    }
-}
-
-impl From<NoMemory> for AddFault {
-    ghost from_gives = { λ _ fault. fault ≡ faults.NoMemory };
-
-    fn from(_: NoMemory) -> AddFault {
-        AddFault::NoMemory
     }
 }
 

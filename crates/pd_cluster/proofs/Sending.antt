@@ -11,11 +11,11 @@ use Rattle.pd_types.specs.declared.request.Request.{Request}
 use Rattle.pd_types.specs.declared.request.Request.TheVariants as ask
 use Rattle.pd_types.specs.declared.step.Step.{Step}
 use Rattle.pd_types.specs.declared.step.StepMsg.{StepMsg}
+use Rattle.id_map.proofs.Inserted.{get-insert}
 use Rattle.meta_store.specs.Asked.{AreAsked}
 use Rattle.meta_store.specs.declared.record.MetaAnswer.{MetaAnswer}
 use Rattle.meta_store.specs.declared.record.MetaCall.{MetaCall}
 use Rattle.meta_store.specs.declared.record.MetaEntry.{MetaEntry}
-use Rattle.op_control.proofs.TableLemmas.{get-insert}
 use Rattle.pd_script.specs.Lawful.{IsLawful}
 use Rattle.pd_script.specs.declared.act.Act.{Act}
 use Rattle.pd_script.specs.declared.act.Act.TheVariants.{Ask, Pop}

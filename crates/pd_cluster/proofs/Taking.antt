@@ -8,7 +8,7 @@ use Rattle.pd_types.specs.declared.oracle.Actor.{Actor}
 use Rattle.pd_types.specs.declared.oracle.Actor.TheVariants.{Driver, Client, Store}
 use Rattle.pd_types.specs.declared.step.StepMsg.{StepMsg}
 use Rattle.pd_types.specs.declared.request.Request.{Request}
-use Rattle.op_control.proofs.TableLemmas.{get-insert}
+use Rattle.id_map.proofs.Inserted.{get-insert}
 use Rattle.pd_script.specs.declared.act.Act.{Act}
 use Rattle.pd_script.specs.declared.act.Act.TheVariants.{Ask, Pop}
 use Rattle.pd_script.specs.declared.act.Line.{Line}

@@ -84,7 +84,7 @@ fn own_of(number: u32, act: Act) -> Own
         }
         Act::Tell { client, to } => by_client(number, client, ClientAsk::Tell { to }),
         Act::Hear { client } => by_client(number, client, ClientAsk::Hear),
-        Act::Ask { driver, request } => to_cluster(number, driver, request),
+        Act::Ask { driver, request } => to_cluster(number, driver, request.into_value()),
         Act::Pop { store, driver } => by_store(number, store, driver, StoreTask::Pop),
         Act::Cell { .. } => Own::Nobody,
         Act::Read { .. } | Act::Campaign { .. } | Act::Save { .. } => Own::Nobody,

@@ -15,7 +15,7 @@ use Rattle.heartbeat.specs.Counts.{leader_count, region_count}
 use Rattle.op_control.specs.Table.{Table}
 use Rattle.op_control.specs.declared.operator.Operator.{Operator}
 use Rattle.op_control.specs.declared.operator.OpState.{OpState}
-use Rattle.store_table.specs.Standing.{state_name}
+use Rattle.store_table.specs.Live.{state_name}
 use Rattle.store_table.specs.StateText.{state_text}
 use Rattle.store_table.specs.declared.entry.StoreEntry.{StoreEntry}
 use Rattle.store_table.specs.declared.names.StateName.{StateName}

@@ -17,15 +17,17 @@ abbrev pub and_then : {A B : Type 0} → Result A CtlFault → (A → Result B C
 and_then (Ok read) make = make read
 and_then (Err fault) make = Err fault
 
--- what is made of a single word, of two, of three
+-- what is made of a single word
 abbrev pub of_one : (List ℕ → Result Command CtlFault) → List (List ℕ) → Result Command CtlFault
 of_one make (word ∷ []) = make word
 of_one make _ = Err MissingWord
 
+-- what is made of two words
 abbrev pub of_two : (List ℕ → List ℕ → Result Command CtlFault) → List (List ℕ) → Result Command CtlFault
 of_two make (first ∷ second ∷ []) = make first second
 of_two make _ = Err MissingWord
 
+-- what is made of three words
 abbrev pub of_three : (List ℕ → List ℕ → List ℕ → Result Command CtlFault) → List (List ℕ) → Result Command CtlFault
 of_three make (first ∷ second ∷ third ∷ []) = make first second third
 of_three make _ = Err MissingWord

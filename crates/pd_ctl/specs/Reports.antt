@@ -7,7 +7,7 @@ use Rattle.pd_types.specs.Timestamp.{physical, logical}
 use Rattle.pd_types.specs.declared.region.RegionBeat.{RegionBeat}
 use Rattle.region_tree.specs.Ranges.{holds}
 use Rattle.store_table.specs.Entries.{entry_at}
-use Rattle.store_table.specs.Standing.{state_name}
+use Rattle.store_table.specs.Live.{state_name}
 use Rattle.store_table.specs.declared.entry.StoreEntry.{StoreEntry}
 use Rattle.op_control.specs.Table.{Table, active_at, state_of}
 use Rattle.op_control.specs.declared.operator.Operator.{Operator}

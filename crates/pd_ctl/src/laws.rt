@@ -3,7 +3,7 @@ ghost use Rattle.json.specs.Print.{quoted};
 ghost use Rattle.pd_types.specs.declared.region.RegionBeat.{RegionBeat};
 ghost use Rattle.region_tree.specs.Ranges.{holds};
 ghost use Rattle.store_table.specs.Entries.{entry_at};
-ghost use Rattle.store_table.specs.Standing.{state_name};
+ghost use Rattle.store_table.specs.Live.{state_name};
 ghost use Rattle.store_table.specs.declared.entry.StoreEntry.{StoreEntry};
 ghost use Rattle.op_control.specs.Life.{is_active};
 ghost use Rattle.op_control.specs.Table.{active_at, state_of, IsListed, Table};

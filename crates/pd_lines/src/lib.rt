@@ -16,5 +16,5 @@ pub use label::{
     addresses_and_labels_have_their_bounds, labels, labels_are_read_as_they_are_written,
 };
 pub use output::{put_all, what_is_written_is_the_front};
-pub use plain::{address, is_plain};
+pub use plain::address;
 pub use words::{cut, digits, number, spells_its_number};

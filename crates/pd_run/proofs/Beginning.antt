@@ -3,6 +3,7 @@ use Rattle.std.proofs.Common.{◌≡◌, ℕ, List, [], ◌∷◌, suc, length, 
 use Rattle.std.specs.Prelude.{All}
 use Rattle.std.specs.List.{AllZip}
 use Rattle.std.proofs.lemmas.List.Elements.{All-cons, All-head, All-nil, All-tail}
+use Rattle.pd_run.proofs.Lists.{head_or, rest_of}
 use Rattle.pd_shared.specs.Names.{StreamName}
 use Rattle.pd_shared.specs.Shares.{SharedValue}
 use Rattle.pd_run.specs.Crews.{AreNamed, IsLedStore}
@@ -13,14 +14,6 @@ use Rattle.pd_run.specs.declared.line.StoreLine.{StoreLine}
 use Rattle.pd_run.specs.declared.line.StoreLines.{StoreLines}
 use Rattle.pd_run.specs.declared.storing.Port.{Port}
 use Rattle.pd_run.specs.declared.storing.StoreWork.{StoreWork}
-
-abbrev head_or : {A : Type 0} → A → List A → A
-head_or d [] = d
-head_or d (x ∷ xs) = x
-
-abbrev rest_of : {A : Type 0} → List A → List A
-rest_of [] = []
-rest_of (x ∷ xs) = xs
 
 -- the lines of a worker, with its store
 abbrev pub tasks_of : {N : Type 0} → StoreWork N → StoreLines

@@ -7,6 +7,7 @@ use Rattle.std.proofs.lemmas.List.Elements.{All-cons, All-contains, All-contains
 use Rattle.pd_turn.specs.Turns.{Among, AreApart, TurnValue}
 use Rattle.pd_types.specs.declared.oracle.Actor.{Actor}
 use Rattle.pd_types.specs.declared.oracle.Actor.TheVariants.{Driver, Store}
+use Rattle.pd_run.proofs.Lists.{head_or}
 use Rattle.step_stream.specs.Streams.{TakerValue}
 use Rattle.meta_store.specs.Seats.{SeatValue}
 use Rattle.pd_state.specs.Clusters.{ClusterValue}
@@ -20,10 +21,6 @@ use Rattle.pd_run.specs.Works.{IsPort, made_at, popped_at}
 use Rattle.pd_run.specs.declared.driving.DriverWork.{DriverWork}
 use Rattle.pd_run.specs.declared.storing.Port.{Port}
 use Rattle.pd_run.specs.declared.storing.StoreWork.{StoreWork}
-
-abbrev head_or : {A : Type 0} → A → List A → A
-head_or d [] = d
-head_or d (x ∷ xs) = x
 
 -- the numbers of stores, none of which is 0
 pub store_actors : (driver : ℕ) (ids : List ℕ) → (Among 0 ids → ⊥) → map (actor_of driver) ids ≡ map Store ids

@@ -15,7 +15,7 @@ use Rattle.pd_run.specs.Pipes.{ArePipesTo, IsNewPipe, OpensPort, end_by, outlet_
 use Rattle.pd_run.specs.declared.begin.PopEnd.{PopEnd}
 use Rattle.pd_run.specs.declared.pipe.Pipe.{Pipe}
 use Rattle.pd_run.specs.declared.storing.Port.{Port}
-use Rattle.pd_run.proofs.Lists.{zip_push}
+use Rattle.pd_run.proofs.Lists.{head_or, rest_of, zip_push}
 
 same_names : (driver : ℕ) (pipes : List Pipe) → map (named driver) (map outlet_by pipes) ≡ map (pipe_name driver) pipes
 same_names driver [] = refl
@@ -57,14 +57,6 @@ shares_of_stores cluster pipes stores is = ap (λ s. map (new_share cluster) (ma
     by : (ps : List Pipe) → map (new_share cluster) (map (actor_of cluster.driver) (map (λ (p : Pipe). p.store) ps)) ≡ map (share_of_pipe cluster) ps
     by [] = refl
     by (p ∷ ps) = ap (λ l. share_of_pipe cluster p ∷ l) (by ps)
-
-abbrev rest_of : {A : Type 0} → List A → List A
-rest_of [] = []
-rest_of (x ∷ xs) = xs
-
-abbrev head_or : {A : Type 0} → A → List A → A
-head_or d [] = d
-head_or d (x ∷ xs) = x
 
 pub ported_none : {N : Type 0} (cluster : SharedValue) (pipes : List Pipe) (stores : List ℕ) (all rest : List ShareValue) (share : ShareValue) (ends : List PopEnd) (ports : List (Port N)) → all ≡ map (new_share cluster) (map (actor_of cluster.driver) (0 ∷ stores)) → all ≡ share ∷ rest
     → ends ≡ map end_by pipes → ArePipesTo stores pipes → ports ≡ [] → Ported cluster pipes ends rest ports

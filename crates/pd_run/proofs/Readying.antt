@@ -3,6 +3,7 @@ use Rattle.std.proofs.Common.{◌≡◌, ℕ, zero, suc, ◌+◌, ◌-◌, ◌<�
 use Rattle.std.specs.Prelude.{All}
 use Rattle.std.proofs.lemmas.List.{append-nil}
 use Rattle.std.proofs.lemmas.List.Elements.{All-head, All-tail, filter-append}
+use Rattle.pd_run.proofs.Lists.{head_or, rest_of}
 use Rattle.pd_turn.specs.Turns.{TurnValue}
 use Rattle.tso_model.specs.Moves.{numbers_from}
 use Rattle.tso_board.specs.declared.board.Board.{Board}
@@ -15,10 +16,14 @@ use Rattle.meta_store.specs.Seats.{AreOpened, SeatValue, new_seat}
 use Rattle.pd_shared.specs.Names.{StreamName, streams_of}
 use Rattle.pd_run.specs.Crews.{AreStarts}
 use Rattle.pd_run.specs.Pipes.{ArePipesTo, names_from, pipe_name}
-use Rattle.pd_run.specs.Starts.{AreHandedOut, AreNewSeats, AreSpareSeats, turn_of_seats}
+use Rattle.pd_run.specs.Starts.{AreHandedOut, AreNewSeats, AreSpareSeats}
 use Rattle.pd_run.specs.declared.begin.Start.{Start}
 use Rattle.pd_run.specs.declared.pipe.Pipe.{Pipe}
-use Rattle.pd_run.proofs.Starting.{head_or, rest_of}
+
+-- the turn of the first seat
+abbrev pub turn_of_seats : TurnValue → List SeatValue → TurnValue
+turn_of_seats none [] = none
+turn_of_seats none (seat ∷ seats) = seat.turn
 
 -- a seat for each driver
 pub seats_count : (board : Board) (seats : List DriverSeat) → map seat_view seats ≡ map (driver_view (setup_of board)) (numbers_from 1 (setup_of board).drivers) → length seats ≡ (setup_of board).drivers

@@ -3,6 +3,7 @@ use Rattle.std.proofs.Common.{Vec, Global, ◌≡◌, ℕ, suc, ◌+◌, ◌<◌
 use mathlib.Core.Bool.{true≢false}
 use Rattle.std.specs.Prelude.{IsSome, Option, Some, None, option_to_list, remove, ◌↔◌}
 use Rattle.std.proofs.lemmas.List.{length-append, map-append}
+use Rattle.pd_run.proofs.Lists.{head_or, rest_of}
 use Rattle.tso_board.specs.declared.seat.DriverSeat.{DriverSeat}
 use Rattle.tso_model.specs.Moves.{numbers_from}
 use Rattle.tso_run.proofs.Rows.{numbered, rows_length}
@@ -11,14 +12,6 @@ use Rattle.pd_run.specs.Starts.{AreDealt, AreHandedOut}
 use Rattle.pd_run.specs.declared.begin.Start.{Start}
 use Rattle.pd_run.specs.declared.line.DriverLine.{DriverLine}
 use Rattle.pd_run.specs.declared.pipe.Pipe.{Pipe}
-
-abbrev pub head_or : {A : Type 0} → A → List A → A
-head_or d [] = d
-head_or d (x ∷ xs) = x
-
-abbrev pub rest_of : {A : Type 0} → List A → List A
-rest_of [] = []
-rest_of (x ∷ xs) = xs
 
 handed_none : (metas : List SeatValue) → 0 < length metas → AreHandedOut [] metas metas
 handed_none [] some_seat = absurd (omega (arith, some_seat))

@@ -4,11 +4,6 @@ use Rattle.pd_turn.specs.Turns.{TurnValue}
 use Rattle.tso_model.specs.Moves.{numbers_from}
 use Rattle.meta_store.specs.Seats.{SeatValue, new_seat}
 
--- the turn of the first seat
-abbrev pub turn_of_seats : TurnValue → List SeatValue → TurnValue
-turn_of_seats none [] = none
-turn_of_seats none (seat ∷ seats) = seat.turn
-
 -- the new seats of a turn that was opened: nobody's, with the number 0, and one for each of seven drivers
 pub record AreNewSeats (meta : TurnValue) (seats : List SeatValue) : Type 0 where
   pub numbers : meta.numbers ≡ numbers_from 0 8

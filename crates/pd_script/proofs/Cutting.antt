@@ -3,7 +3,7 @@ use Rattle.std.proofs.Common.{◌≡◌, ℕ, suc, ◌+◌, ◌-◌, ◌<◌, �
 use Rattle.std.specs.Option.{is_some}
 use Rattle.std.proofs.lemmas.List.{take_more, take_all, drop_all}
 use Rattle.std.proofs.Math.Seq.{drop-cons}
-use Rattle.pd_script.specs.Forms.{all_in_front, in_front, is_colon, is_separator, items_behind, items_from, items_of, unless_colon}
+use Rattle.pd_script.specs.Forms.{in_front, is_colon, is_separator, items_behind, items_from, items_of, unless_colon}
 use Rattle.pd_script.specs.declared.refusal.Reason.{Reason}
 use Rattle.pd_script.specs.declared.refusal.Reason.TheVariants.{BadWord}
 
@@ -36,6 +36,11 @@ pub item_is_last : (word : List ℕ) (i : ℕ) → length word ≤ i → items_f
 item_is_last word i end e = rw (take_all i word end, drop_all i word end) at e
 
 -- a list that is read from left to right
+-- elements in front of the rest
+abbrev pub all_in_front : {A : Type 0} → List A → Result (List A) Reason → Result (List A) Reason
+all_in_front front (Ok rest) = Ok (front ++ rest)
+all_in_front front (Err reason) = Err reason
+
 pub none_in_front : {A : Type 0} (r : Result (List A) Reason) → r ≡ all_in_front [] r
 none_in_front (Ok rest) = refl
 none_in_front (Err reason) = refl

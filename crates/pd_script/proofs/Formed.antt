@@ -10,13 +10,16 @@ use Rattle.pd_lines.specs.Numeral.{number_of}
 use Rattle.pd_lines.specs.Plain.{is_plain}
 use Rattle.pd_lines.proofs.Listing.{labels_read, no_labels}
 use Rattle.pd_types.specs.declared.region.DownPeer.{DownPeer}
+use Rattle.pd_types.specs.declared.region.Epoch.{Epoch}
 use Rattle.pd_types.specs.declared.region.Peer.{Peer}
 use Rattle.pd_types.specs.declared.region.RegionBeat.{RegionBeat}
 use Rattle.pd_types.specs.declared.region.Role.{Role}
 use Rattle.pd_types.specs.declared.region.Role.TheVariants.{Voter, Learner}
 use Rattle.pd_types.specs.declared.request.Request.TheVariants.{Hello, Alive, Beat, Rule, Unrule, Check, Patrol, Schedule, Ctl}
 use Rattle.pd_types.specs.declared.store.Label.{Label}
-use Rattle.pd_script.specs.Asks.{alive_of, asked_of, beat_of, greeted, head_of, hello_of, labels_or, region_of, reported, troubled_of}
+use Rattle.pd_script.specs.Asks.{asked_of}
+use Rattle.pd_script.specs.BeatLines.{beat_of, epoch_of, region_of, reported, troubled_of}
+use Rattle.pd_script.specs.StoreLines.{alive_of, greeted, head_of, hello_of, labels_or}
 use Rattle.pd_script.specs.CtlLines.{ctl_by, schedule_of}
 use Rattle.pd_script.specs.CheckLines.{check_of, patrol_of}
 use Rattle.pd_script.specs.Formed.{IsAsked, IsDown, IsId, IsPeer, IsReport, IsSpoken}
@@ -26,7 +29,7 @@ use Rattle.pd_script.specs.RuleLines.{is_name, json_form, name_form, rule_by, un
 use Rattle.pd_script.specs.Words.{behind_word, trimmed, words}
 use Rattle.pd_script.specs.declared.ask.Asked.{Asked}
 use Rattle.pd_script.specs.declared.ask.Head.{Head}
-use Rattle.pd_script.specs.declared.ask.Troubled.{Troubled}
+use Rattle.pd_script.specs.declared.beats.Troubled.{Troubled}
 use Rattle.pd_script.specs.declared.place.Place.TheVariants.{Driver, Id, Moment, Seconds, Version, Workers}
 use Rattle.pd_script.specs.declared.refusal.Reason.{Reason}
 use Rattle.pd_script.specs.declared.refusal.Reason.TheVariants.{BadWord, ExtraWord, MissingWord}
@@ -196,21 +199,28 @@ alive_ok (s ∷ d ∷ m ∷ []) a is =
     subst IsFine (same_ok (record { driver = h.0.driver; request = Alive h.0.store h.0.moment }) a h.2) (record { pos = head.pos; asked = head.spoken })
 alive_ok (s ∷ d ∷ m ∷ more ∷ rest) a is = no_fine ExtraWord a is
 
+-- both numbers of an epoch
+epoch_ok : (conf_ver version : List ℕ) (epoch : Epoch) → epoch_of conf_ver version ≡ Ok epoch → (epoch.conf_ver < 2 ^ 63) × (epoch.version < 2 ^ 63)
+epoch_ok conf_ver version epoch is =
+    let c = then_read (read_place Version conf_ver) _ epoch is in
+    let v = then_read (read_place Version version) _ epoch c.2 in
+    subst (λ (x : Epoch). (x.conf_ver < 2 ^ 63) × (x.version < 2 ^ 63)) (same_ok (record { conf_ver = c.0; version = v.0 }) epoch v.2) (read_version conf_ver c.0 c.1, read_version version v.0 v.1)
+
 -- a region without the peers that are down or pending
 region_ok : (id start end conf_ver version leader peers : List ℕ) (beat : RegionBeat) → region_of id start end conf_ver version leader peers ≡ Ok beat → IsReport beat
 region_ok id start end conf_ver version leader peers beat is =
     let r = then_read (read_place Id id) _ beat is in
     let s = then_read (key_form start) _ beat r.2 in
     let e = then_read (key_form end) _ beat s.2 in
-    let c = then_read (read_place Version conf_ver) _ beat e.2 in
-    let v = then_read (read_place Version version) _ beat c.2 in
-    let l = then_read (read_place Id leader) _ beat v.2 in
+    let epoch = then_read (epoch_of conf_ver version) _ beat e.2 in
+    let l = then_read (read_place Id leader) _ beat epoch.2 in
     let p = then_read (peers_of peers) _ beat l.2 in
-    subst IsReport (same_ok (record { region = record { id = r.0; start = s.0; end = e.0; epoch = record { conf_ver = c.0; version = v.0 }; peers = p.0 }; leader = l.0; down = []; pending = [] }) beat p.2)
+    let low = epoch_ok conf_ver version epoch.0 epoch.1 in
+    subst IsReport (same_ok (record { region = record { id = r.0; start = s.0; end = e.0; epoch = epoch.0; peers = p.0 }; leader = l.0; down = []; pending = [] }) beat p.2)
     (record {
       region = read_id id r.0 r.1;
-      conf_ver = read_version conf_ver c.0 c.1;
-      version = read_version version v.0 v.1;
+      conf_ver = low.0;
+      version = low.1;
       leader = read_id leader l.0 l.1;
       peers = peers_word peers p.0 p.1;
       down = All-nil IsDown;

@@ -26,7 +26,7 @@ use Rattle.pd_script.specs.declared.script.Mode.{Mode}
 use Rattle.pd_script.specs.declared.event.Event.{Event}
 use Rattle.pd_script.specs.declared.event.Event.TheVariants.{Step, Ask}
 use Rattle.pd_script.specs.declared.event.Numbered.{Numbered}
-use Rattle.pd_script.specs.declared.verb.Numbers.{Numbers}
+use Rattle.pd_script.specs.declared.numbers.Numbers.{Numbers}
 use Rattle.pd_script.specs.declared.verb.Places.{Places}
 use Rattle.pd_script.specs.declared.verb.Places.TheVariants.{One, Two, Three}
 use Rattle.pd_script.specs.declared.verb.Verb.{Verb}

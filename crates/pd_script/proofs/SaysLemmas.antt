@@ -4,7 +4,7 @@ use Rattle.pd_script.specs.Says.{Says, no_request, says}
 use Rattle.pd_script.specs.Scripts.{act_by, actor_by}
 use Rattle.pd_script.specs.Table.{Row, row}
 use Rattle.pd_script.specs.declared.place.Place.{Place}
-use Rattle.pd_script.specs.declared.verb.Numbers.{Numbers}
+use Rattle.pd_script.specs.declared.numbers.Numbers.{Numbers}
 use Rattle.pd_script.specs.declared.verb.Places.{Places}
 use Rattle.pd_script.specs.declared.verb.Places.TheVariants.{One, Two, Three}
 use Rattle.pd_script.specs.declared.verb.Verb.{Verb}

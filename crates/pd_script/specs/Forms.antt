@@ -78,11 +78,6 @@ abbrev pub in_front : {A : Type 0} → A → Result (List A) Reason → Result (
 in_front a (Ok rest) = Ok (a ∷ rest)
 in_front a (Err reason) = Err reason
 
--- elements in front of the rest
-abbrev pub all_in_front : {A : Type 0} → List A → Result (List A) Reason → Result (List A) Reason
-all_in_front front (Ok rest) = Ok (front ++ rest)
-all_in_front front (Err reason) = Err reason
-
 -- `v` or `l`
 abbrev pub role_of : List ℕ → Result Role Reason
 role_of word = if bytes_eq word (codes "v") then Ok Voter else if bytes_eq word (codes "l") then Ok Learner else Err BadWord

@@ -14,7 +14,7 @@ use Rattle.pd_script.specs.declared.place.Place.{Place}
 use Rattle.pd_script.specs.declared.place.Place.TheVariants.{Driver, Client}
 use Rattle.pd_script.specs.declared.script.Mode.{Mode}
 use Rattle.pd_script.specs.declared.script.Script.{Script}
-use Rattle.pd_script.specs.declared.verb.Standing.{Standing}
+use Rattle.pd_script.specs.declared.verb.Where.{Where}
 
 -- the number of one of so many drivers or clients
 pub record IsOneOf (most n : ℕ) : Type 0 where
@@ -37,7 +37,7 @@ abbrev pub IsLawful : ℕ → ℕ → Act → Type 0
 IsLawful drivers clients act = AllByRecursion (IsInRange drivers clients) (says act).numbers
 
 -- where a line of this act may stand
-abbrev pub standing_of : Act → Standing
+abbrev pub standing_of : Act → Where
 standing_of act = (says act).standing
 
 -- each line is lawful; whether the next one is the first event

@@ -1,4 +1,5 @@
 pub mod Asks
+pub mod BeatLines
 pub mod CheckLines
 pub mod CtlLines
 pub mod Formed
@@ -12,5 +13,6 @@ pub mod Refusals
 pub mod RuleLines
 pub mod Says
 pub mod Scripts
+pub mod StoreLines
 pub mod Table
 pub mod Words

@@ -9,18 +9,18 @@ use Rattle.pd_script.specs.declared.act.Act.{Act}
 use Rattle.pd_script.specs.declared.act.Act.TheVariants.{Cell, Lead, Tick, Resign, Take, Tell, Hear, Read, Campaign, Save, Raise, Publish, Probe, Look, Arm, Draw, Ask, Pop}
 use Rattle.pd_script.specs.declared.place.Place.{Place}
 use Rattle.pd_script.specs.declared.place.Place.TheVariants.{Driver, Client, Moment, Count, Saved, Term, Id}
-use Rattle.pd_script.specs.declared.verb.Standing.{Standing}
-use Rattle.pd_script.specs.declared.verb.Standing.TheVariants.{Anywhere, Opening, SingleStep}
+use Rattle.pd_script.specs.declared.verb.Where.{Where}
+use Rattle.pd_script.specs.declared.verb.Where.TheVariants.{Anywhere, Opening, SingleStep}
 
 -- what one line says: where it may stand, who acts, the numbers in their places, and the request that a cluster is asked
 pub record Says : Type 0 where
-  pub standing : Standing
+  pub standing : Where
   pub actor : Option Actor
   pub numbers : List (Place × ℕ)
   pub asked : Option Request
 
 -- a line that is no request: it asks nothing of a cluster
-abbrev pub no_request : Standing → Option Actor → List (Place × ℕ) → Says
+abbrev pub no_request : Where → Option Actor → List (Place × ℕ) → Says
 no_request standing actor numbers = record { standing = standing; actor = actor; numbers = numbers; asked = None }
 
 -- the table: no one opens the cell, a driver takes its steps, a client draws and tells, a request has its asker, and a store takes what was sent to it

@@ -8,8 +8,8 @@ use Rattle.pd_script.specs.declared.script.Mode.{Mode}
 use Rattle.pd_script.specs.declared.script.Mode.TheVariants.{Replay, Run}
 use Rattle.pd_script.specs.declared.verb.Places.{Places}
 use Rattle.pd_script.specs.declared.verb.Places.TheVariants.{One, Two, Three}
-use Rattle.pd_script.specs.declared.verb.Standing.{Standing}
-use Rattle.pd_script.specs.declared.verb.Standing.TheVariants.{Anywhere, Opening, SingleStep}
+use Rattle.pd_script.specs.declared.verb.Where.{Where}
+use Rattle.pd_script.specs.declared.verb.Where.TheVariants.{Anywhere, Opening, SingleStep}
 use Rattle.pd_script.specs.declared.verb.TheConstants.{VERBS}
 use Rattle.pd_script.specs.declared.verb.Verb.{Verb}
 use Rattle.pd_script.specs.declared.verb.Verb.TheVariants.{Cell, Lead, Tick, Resign, Take, Tell, Hear, Read, Campaign, Save, Raise, Publish, Probe, Look, Arm, Draw, Pop}
@@ -18,7 +18,7 @@ use Rattle.pd_script.specs.declared.verb.Verb.TheVariants.{Cell, Lead, Tick, Res
 pub record Row : Type 0 where
   pub name : List ℕ
   pub places : Places
-  pub standing : Standing
+  pub standing : Where
 
 -- the table, a row for each first word
 abbrev pub row : Verb → Row
@@ -45,7 +45,7 @@ abbrev pub verb_of : List ℕ → Option Verb
 verb_of word = find (λ verb. bytes_eq word (row verb).name) VERBS
 
 -- the line may not stand here: a `cell` line behind another event; in `run` a single step
-abbrev pub is_misplaced : Mode → Bool → Standing → Bool
+abbrev pub is_misplaced : Mode → Bool → Where → Bool
 is_misplaced mode first Anywhere = false
 is_misplaced mode true Opening = false
 is_misplaced mode false Opening = true

@@ -2,7 +2,9 @@ ghost use Rattle.std.specs.Prelude.{◌≡◌, ◌≤◌};
 ghost use Rattle.pd_script.specs.Scripts.{act_by, greatest_in, if_client, if_driver};
 ghost use Rattle.pd_script.specs.Table.{row};
 
-use crate::verb::{Numbers, Verb};
+use crate::Boxed;
+use crate::numbers::Numbers;
+use crate::verb::Verb;
 use pd_types::{Actor, Request};
 
 /// What a line does. Moments are in milliseconds since the epoch.
@@ -43,7 +45,7 @@ pub enum Act {
     /// The store takes the oldest of the steps that the driver's cluster sent to it.
     Pop { store: u64, driver: u8 },
     /// A request to a driver's cluster.
-    Ask { driver: u8, request: Request },
+    Ask { driver: u8, request: Boxed<Request> },
 }
 
 /// A line of a script: its number, counted from 1 over all lines of the text, and who acts in it

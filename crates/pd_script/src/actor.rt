@@ -1,9 +1,10 @@
 // Who acts in a line.
 ghost use Rattle.std.specs.Prelude.{◌≡◌, ◌≤◌, ℕ, option_to_list};
-ghost use Rattle.pd_script.specs.Scripts.{acting, actor_by, asker, asks_report, greatest_in, if_client, if_driver, store_in};
+ghost use Rattle.pd_script.specs.Scripts.{acting, actor_by, asker, asks_report, greatest_in, if_client, if_driver, store_by, store_in};
 
+use crate::numbers::Numbers;
 use crate::place::Place;
-use crate::verb::{Numbers, Places};
+use crate::verb::Places;
 use pd_types::{Actor, Request};
 
 /// Who asks a request of this driver's cluster: the store that says it, or the driver itself.
@@ -38,7 +39,13 @@ pub fn speaker(request: &Request) -> Option<u64>
 pub fn asks_report(request: &Request) -> bool
     ensures value { result ≡ asks_report request.now }
 {
-    matches!(request, Request::Patrol { .. } | Request::Ctl { .. })
+    match request {
+        Request::Patrol { .. } | Request::Ctl { .. } => true,
+        Request::Hello { .. } | Request::Alive { .. } | Request::Beat { .. } => false,
+        Request::Rule { .. } | Request::Unrule { .. } => false,
+        Request::Check { .. } | Request::Schedule { .. } => false,
+        Request::Term { .. } | Request::Retire => false,
+    }
 }
 
 // Who acts in a place.
@@ -66,5 +73,26 @@ pub fn step_actor(places: Places, n: Numbers) -> Option<Actor>
         Places::One(p) => acting(p, n.first),
         Places::Two(p, _) => acting(p, n.first),
         Places::Three(p, _, _) => acting(p, n.first),
+    }
+}
+
+// The store that acts in a place, where one does.
+fn if_store(place: Place, n: u64) -> Option<u64>
+    ensures value { option_to_list result ≡ store_by (acting place n) }
+{
+    match place {
+        Place::Id => Some(n),
+        _ => None,
+    }
+}
+
+/// The store that a line names first, where it does.
+pub fn store_in(places: Places, n: Numbers) -> Option<u64>
+    ensures value { option_to_list result ≡ store_by (actor_by places n) }
+{
+    match places {
+        Places::One(p) => if_store(p, n.first),
+        Places::Two(p, _) => if_store(p, n.first),
+        Places::Three(p, _, _) => if_store(p, n.first),
     }
 }

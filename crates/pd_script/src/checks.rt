@@ -5,9 +5,8 @@ ghost use Rattle.pd_script.specs.Words.{words};
 
 use crate::Reason;
 use crate::ask::Asked;
-use crate::line::word;
 use crate::place::{Place, read_place};
-use crate::split::next_word;
+use crate::split::{next_word, word};
 use pd_types::Request;
 
 /// Reads what stands behind the word of `check D NOW R`.

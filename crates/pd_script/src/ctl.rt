@@ -6,10 +6,9 @@ ghost use Rattle.pd_script.specs.Words.{words};
 
 use crate::Reason;
 use crate::ask::Asked;
-use crate::line::word;
 use crate::place::{Place, read_place};
 use crate::refusal::LineRefusal;
-use crate::split::{next_word, trimmed};
+use crate::split::{next_word, trimmed, word};
 use pd_types::{Bytes, Request};
 use std::alloc::Global;
 

@@ -17,6 +17,19 @@ pub enum RequestVerb {
     Ctl,
 }
 
+/// All of them.
+pub const REQUEST_VERBS: [RequestVerb; 9] = [
+    RequestVerb::Hello,
+    RequestVerb::Alive,
+    RequestVerb::Beat,
+    RequestVerb::Rule,
+    RequestVerb::Unrule,
+    RequestVerb::Check,
+    RequestVerb::Patrol,
+    RequestVerb::Schedule,
+    RequestVerb::Ctl,
+];
+
 impl RequestVerb {
     /// The word itself.
     pub fn word(self) -> &'static str
@@ -52,16 +65,5 @@ fn first_named_request(verbs: &[RequestVerb], word: &[u8]) -> Option<RequestVerb
 pub fn request_verb_of(word: &[u8]) -> Option<RequestVerb>
     ensures value { result ≡ request_verb_of word.now }
 {
-    let verbs = [
-        RequestVerb::Hello,
-        RequestVerb::Alive,
-        RequestVerb::Beat,
-        RequestVerb::Rule,
-        RequestVerb::Unrule,
-        RequestVerb::Check,
-        RequestVerb::Patrol,
-        RequestVerb::Schedule,
-        RequestVerb::Ctl,
-    ];
-    first_named_request(&verbs, word)
+    first_named_request(&REQUEST_VERBS, word)
 }

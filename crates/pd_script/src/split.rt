@@ -1,6 +1,8 @@
 // The words of a line.
-ghost use Rattle.std.specs.Prelude.{◌≡◌, ◌≢◌, ◌<◌, ◌∷◌, [], get_or, length, IfSome, MatchOption};
+ghost use Rattle.std.specs.Prelude.{◌≡◌, ◌≢◌, ◌<◌, ◌∷◌, [], get_or, length, IfOk, IfSome, MatchOption, MatchResult};
 ghost use Rattle.pd_script.specs.Words.{behind_word, from_space, from_word, to_word, trimmed, words};
+
+use crate::Reason;
 
 // The line from its first byte that is no space.
 fn skip_spaces(line: &[u8]) -> &[u8]
@@ -59,4 +61,15 @@ pub fn next_word(line: &[u8]) -> Option<(&[u8], &[u8])>
         return None;
     }
     Some(first_word(line))
+}
+
+/// The next word, which may not be missing.
+pub fn word(rest: &[u8]) -> Result<(&[u8], &[u8]), Reason>
+    ensures value { MatchResult result (λ p. words rest.now ≡ p.0.now ∷ words p.1.now) (λ reason. (words rest.now ≡ []) × (reason ≡ Reason.MissingWord)) }
+    ensures behind { IfOk result (λ p. p.1.now ≡ behind_word rest.now) }
+{
+    match next_word(rest) {
+        Some(parts) => Ok(parts),
+        None => Err(Reason::MissingWord),
+    }
 }

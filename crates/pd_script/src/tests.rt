@@ -1,5 +1,5 @@
 // Lines with the reason for which they are at fault, 0 where they are events.
-use crate::{Act, Limited, Mode, Reason, ScriptRefusal, read_script};
+use crate::{Act, Limited, Line, Mode, Reason, ScriptRefusal, read_script};
 use pd_types::{Actor, Request};
 use std::alloc::Global;
 use std::process::Abort;
@@ -391,6 +391,17 @@ fn a_script_has_its_lines_and_the_greatest_numbers(rt: HostRuntime) -> Result<()
     Ok(())
 }
 
+// What a line asks of this driver's cluster.
+fn asked(driver: u8, line: &Line) -> Option<&Request> {
+    match &line.act {
+        Act::Ask {
+            driver: one,
+            request,
+        } if *one == driver => Some(request.value()),
+        _ => None,
+    }
+}
+
 // A line `rule` whose JSON text has so many bytes, with spaces around and inside it.
 fn rule_line(alloc: Global, count: u64) -> Result<String, Fail> {
     let mut text = String::new(alloc);
@@ -411,11 +422,8 @@ fn a_rule_is_the_rest_of_its_line(rt: HostRuntime) -> Result<(), Fail> {
         let script = read_script(alloc, text.as_bytes(), Mode::Replay)?;
         for line in script.lines.as_slice() {
             assert_eq!(rt; line.actor, Some(Actor::Driver(1)));
-            match &line.act {
-                Act::Ask {
-                    driver: 1,
-                    request: Request::Rule { moment: 1000, json },
-                } => {
+            match asked(1, line) {
+                Some(Request::Rule { moment: 1000, json }) => {
                     assert_eq!(rt; json.len() as u64, count);
                     assert!(rt; json.as_slice().starts_with(b"{  "));
                     assert!(rt; json.as_slice().ends_with(b"}"));
@@ -439,15 +447,14 @@ fn a_rule_is_removed_by_its_group_and_id(rt: HostRuntime) -> Result<(), Fail> {
     assert_eq!(rt; (script.drivers, script.lines.len()), (2, 1));
     for line in script.lines.as_slice() {
         assert_eq!(rt; line.actor, Some(Actor::Driver(2)));
-        match &line.act {
-            Act::Ask {
-                driver: 2,
-                request: Request::Unrule {
+        match asked(2, line) {
+            Some(
+                Request::Unrule {
                     moment: 7,
                     group,
                     id,
                 },
-            } => {
+            ) => {
                 assert_eq!(rt; group.as_str(), "pd");
                 assert_eq!(rt; id.as_str(), "x/1");
             }
@@ -463,21 +470,19 @@ fn a_driver_has_its_regions_checked(rt: HostRuntime) -> Result<(), Fail> {
     assert_eq!(rt; (script.drivers, script.lines.len()), (3, 2));
     for line in script.lines.as_slice() {
         assert_eq!(rt; line.actor, Some(Actor::Driver(3)));
-        match &line.act {
-            Act::Ask {
-                driver: 3,
-                request: Request::Check {
+        match asked(3, line) {
+            Some(
+                Request::Check {
                     moment: 9,
                     region: 7,
                 },
-            } => assert_eq!(rt; line.number, 1),
-            Act::Ask {
-                driver: 3,
-                request: Request::Patrol {
+            ) => assert_eq!(rt; line.number, 1),
+            Some(
+                Request::Patrol {
                     moment: 10,
                     workers: 16,
                 },
-            } => assert_eq!(rt; line.number, 2),
+            ) => assert_eq!(rt; line.number, 2),
             _ => assert!(rt; false, "another act"),
         }
     }
@@ -492,15 +497,9 @@ fn a_driver_schedules_and_is_commanded(rt: HostRuntime) -> Result<(), Fail> {
     assert_eq!(rt; (script.drivers, script.lines.len()), (3, 2));
     for line in script.lines.as_slice() {
         assert_eq!(rt; line.actor, Some(Actor::Driver(3)));
-        match &line.act {
-            Act::Ask {
-                driver: 3,
-                request: Request::Schedule { moment: 9 },
-            } => assert_eq!(rt; line.number, 1),
-            Act::Ask {
-                driver: 3,
-                request: Request::Ctl { moment: 10, words },
-            } => {
+        match asked(3, line) {
+            Some(Request::Schedule { moment: 9 }) => assert_eq!(rt; line.number, 1),
+            Some(Request::Ctl { moment: 10, words }) => {
                 assert_eq!(rt; line.number, 2);
                 assert_eq!(rt; words.as_slice(), b"store  1".as_slice());
             }

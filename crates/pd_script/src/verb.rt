@@ -6,7 +6,7 @@ ghost use Rattle.pd_script.specs.Table.{row, verb_of};
 use crate::place::Place;
 use crate::place::Place::{Client, Count, Driver, Id, Moment, Saved, Term};
 use Places::{One, Three, Two};
-use Standing::{Anywhere, Opening, SingleStep};
+use Where::{Anywhere, Opening, SingleStep};
 
 /// The first words of lines.
 #[derive(Clone, Copy, Debug, PartialEq, Eq)]
@@ -32,7 +32,7 @@ pub enum Verb {
 
 /// Where a line may stand.
 #[derive(Clone, Copy, Debug, PartialEq, Eq)]
-pub enum Standing {
+pub enum Where {
     Anywhere,
     /// As the first event alone.
     Opening,
@@ -48,14 +48,6 @@ pub enum Places {
     Three(Place, Place, Place),
 }
 
-/// The numbers behind the first word, 0 where there are no more.
-#[derive(Clone, Copy, Debug, PartialEq, Eq)]
-pub struct Numbers {
-    pub first: u64,
-    pub second: u64,
-    pub third: u64,
-}
-
 /// What is said of a line by its first word.
 #[derive(Clone, Copy, Debug, PartialEq, Eq)]
 pub struct Row {
@@ -64,7 +56,7 @@ pub struct Row {
     /// What stands behind it.
     pub places: Places,
     /// Where its line may stand.
-    pub standing: Standing,
+    pub standing: Where,
 }
 
 /// All first words.
@@ -88,7 +80,7 @@ pub const VERBS: [Verb; 17] = [
     Verb::Pop,
 ];
 
-fn row_of(name: &'static str, places: Places, standing: Standing) -> Row
+fn row_of(name: &'static str, places: Places, standing: Where) -> Row
     ensures name { result.name.now ≡ name.now }
     ensures places { result.places ≡ places }
     ensures standing { result.standing ≡ standing }

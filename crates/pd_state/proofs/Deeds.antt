@@ -17,7 +17,7 @@ use Rattle.meta_store.specs.Stores.{store_bytes, store_key}
 use Rattle.id_alloc.specs.Windows.{Window, id_call, is_spent, is_used_up, with_next, with_saved}
 use Rattle.op_step.specs.Peers.{has_id}
 use Rattle.op_control.specs.declared.operator.NewOp.{NewOp}
-use Rattle.op_control.specs.declared.table.AddFault.{AddFault}
+use Rattle.op_control.specs.declared.adding.AddFault.{AddFault}
 use Rattle.op_control.specs.Adding.{refusal_of}
 use Rattle.rule_checker.specs.declared.class.Class.{Class}
 use Rattle.rule_checker.specs.Told.{Plans}

@@ -5,7 +5,7 @@ use Rattle.pd_types.specs.declared.memory.NoMemory.{NoMemory}
 use Rattle.pd_types.specs.declared.region.RegionBeat.{RegionBeat}
 use Rattle.id_alloc.specs.Windows.{Window}
 use Rattle.op_control.specs.declared.operator.NewOp.{NewOp}
-use Rattle.op_control.specs.declared.table.AddFault.{AddFault}
+use Rattle.op_control.specs.declared.adding.AddFault.{AddFault}
 use Rattle.op_control.specs.Adding.{refusal_of, with_new_id}
 use Rattle.op_control.proofs.IdLemmas.{same_refusal}
 use Rattle.pd_state.specs.Adding.{Adds, Around, Drawn, Planning, Work, add_op, around_of, asks_id, drawn, entered, free_id, planning_of, with_window, work}

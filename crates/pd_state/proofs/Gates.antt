@@ -12,7 +12,7 @@ use Rattle.meta_store.specs.declared.record.MetaAnswer.{MetaAnswer}
 use Rattle.op_step.specs.Safe.{IsSafe}
 use Rattle.op_control.specs.declared.operator.NewOp.{NewOp}
 use Rattle.op_control.specs.declared.operator.Operator.{Operator}
-use Rattle.op_control.specs.declared.table.AddFault.{AddFault}
+use Rattle.op_control.specs.declared.adding.AddFault.{AddFault}
 use Rattle.op_control.specs.declared.turn.Dispatch.{Dispatch}
 use Rattle.op_control.specs.declared.turn.Dispatch.TheVariants as dispatch
 use Rattle.op_control.specs.Adding.{added, refusal_of, with_new_id}

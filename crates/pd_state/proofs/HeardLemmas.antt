@@ -3,7 +3,7 @@ use Rattle.std.proofs.Common.{◌≡◌, ◌≢◌, ℕ, List, All, Option, Some
 use Rattle.std.proofs.lemmas.Bool.{eq-eqb, ne_eqb}
 use Rattle.std.proofs.lemmas.List.Elements.{All-map}
 use Rattle.store_table.specs.declared.entry.StoreEntry.{StoreEntry}
-use Rattle.store_table.specs.Standing.{later}
+use Rattle.store_table.specs.Live.{later}
 use Rattle.pd_state.specs.State.{alive_by, began_of, heard, hello_by, part_of, records_of, store_of}
 use Rattle.pd_state.specs.declared.entry.Entry.{Entry}
 use Rattle.pd_state.specs.declared.reply.Reply.{Reply}

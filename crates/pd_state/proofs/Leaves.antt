@@ -9,7 +9,7 @@ use Rattle.meta_store.specs.declared.record.MetaVerdict.TheVariants as verdicts
 use Rattle.id_alloc.specs.Windows.{Window, id_call, is_spent, is_used_up}
 use Rattle.op_step.specs.Peers.{has_id}
 use Rattle.op_control.specs.declared.operator.NewOp.{NewOp}
-use Rattle.op_control.specs.declared.table.AddFault.{AddFault}
+use Rattle.op_control.specs.declared.adding.AddFault.{AddFault}
 use Rattle.op_control.specs.Adding.{refusal_of}
 use Rattle.rule_checker.specs.Told.{Told, Fits, Plans, Splits, Stuck}
 use Rattle.pd_state.specs.Adding.{Around, Drawn, Planning, Work, add_by, add_op, around_at, asks_id, draw, drawn, draw_saved, enter, entered, entered_with, free_id, pass_over, planning_of, saved_by}

@@ -15,7 +15,7 @@ use Rattle.op_control.specs.declared.operator.NewOp.{NewOp}
 use Rattle.op_control.specs.declared.operator.Operator.{Operator}
 use Rattle.op_control.specs.declared.operator.OpState.{OpState}
 use Rattle.op_control.specs.declared.operator.OpState.TheVariants.{Created, Started, Success, Canceled, Replaced, Expired, Timeout}
-use Rattle.op_control.specs.declared.table.AddFault.{AddFault}
+use Rattle.op_control.specs.declared.adding.AddFault.{AddFault}
 use Rattle.op_control.specs.declared.turn.Dispatch.{Dispatch}
 use Rattle.op_control.specs.declared.turn.Dispatch.TheVariants as dispatch
 use Rattle.op_control.specs.Adding.{added, created, refusal_of, with_new_id}
@@ -24,7 +24,6 @@ use Rattle.op_control.specs.Table.{Table, active_at, active_by, cancel, canceled
 use Rattle.op_control.specs.Turn.{answer_of, moves, stays_active, stays_started, turned}
 use Rattle.op_control.proofs.ChangeLemmas.{active-state}
 use Rattle.op_control.proofs.LifeLemmas.{gone-by, moved-turned}
-use Rattle.op_control.proofs.TableLemmas.{get-insert}
 use Rattle.rule_checker.specs.Told.{Told, Fits, Plans, Splits, Stuck}
 use Rattle.pd_state.specs.Adding.{Around, Drawn, Planning, Work, add_by, add_op, around_at, asks_id, enter, entered, entered_with, free_id, planning_of, with_window}
 use Rattle.pd_state.specs.Asking.{Hearing, done, hearing, write}
@@ -40,6 +39,7 @@ use Rattle.pd_state.specs.Reports.{command_told}
 use Rattle.pd_state.specs.Scheduling.{heed, proposed, schedule, schedule_of, scheduler}
 use Rattle.pd_state.specs.declared.wishing.Asker.{Asker}
 use Rattle.pd_types.specs.declared.store.StoreRec.{StoreRec}
+use Rattle.id_map.proofs.Inserted.{get-insert}
 use Rattle.meta_store.specs.Stores.{store_bytes, store_key}
 use Rattle.meta_store.specs.declared.record.MetaVerdict.{MetaVerdict}
 use Rattle.meta_store.specs.declared.record.MetaVerdict.TheVariants as verdicts

@@ -10,7 +10,7 @@ use Rattle.meta_store.specs.declared.record.MetaVerdict.TheVariants as verdicts
 use Rattle.id_alloc.specs.Windows.{Window, id_call, is_spent, is_used_up}
 use Rattle.op_step.specs.Peers.{has_id}
 use Rattle.op_control.specs.declared.operator.NewOp.{NewOp}
-use Rattle.op_control.specs.declared.table.AddFault.{AddFault}
+use Rattle.op_control.specs.declared.adding.AddFault.{AddFault}
 use Rattle.op_control.specs.Adding.{refusal_of, with_new_id}
 use Rattle.pd_state.specs.Adding.{Around, Drawn, Planning, Work, add_by, add_op, asks_id, draw, draw_saved, drawn, enter, entered, entered_with, free_id, left_out, pass_over, saved_by, with_window}
 use Rattle.pd_state.specs.Asking.{Asking, Hearing, Point, ask, done, ended}

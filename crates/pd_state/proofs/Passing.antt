@@ -5,12 +5,12 @@ use Rattle.std.specs.FinMap as map
 use Rattle.std.specs.List.{All}
 use Rattle.pd_types.specs.declared.region.RegionBeat.{RegionBeat}
 use Rattle.pd_types.specs.declared.step.Step.{Step}
+use Rattle.id_map.proofs.Inserted.{same-insert}
 use Rattle.store_table.specs.declared.entry.StoreEntry.{StoreEntry}
 use Rattle.op_step.specs.Finished.{is_finished}
 use Rattle.op_control.specs.declared.operator.Operator.{Operator}
 use Rattle.op_control.specs.Table.{Table, active_at, turned_by}
 use Rattle.op_control.specs.Turn.{finished_count, turned}
-use Rattle.op_control.proofs.TableLemmas.{same-insert}
 use Rattle.pd_state.specs.Passing.{HasPassed, IsUnfinished, Passes}
 
 -- steps in two parts: those that are finished, and the others from the first one on that isn't

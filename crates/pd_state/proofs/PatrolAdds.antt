@@ -8,18 +8,19 @@ use Rattle.std.specs.List.{All}
 use Rattle.std.specs.Prelude.{codes}
 use Rattle.pd_types.specs.declared.region.Epoch.{Epoch}
 use Rattle.pd_types.specs.declared.region.RegionBeat.{RegionBeat}
+use Rattle.std.specs.Option.{option_or}
+use Rattle.id_map.proofs.Inserted.{get-insert, same-insert}
 use Rattle.store_limit.specs.declared.limits.Limited.{Limited}
 use Rattle.store_table.specs.declared.entry.StoreEntry.{StoreEntry}
 use Rattle.op_control.specs.declared.operator.NewOp.{NewOp}
 use Rattle.op_control.specs.declared.operator.Operator.{Operator}
-use Rattle.op_control.specs.declared.table.TheConstants.{MOST_OPERATORS}
-use Rattle.op_control.specs.declared.table.AddFault.{AddFault}
-use Rattle.op_control.specs.declared.table.AddFault.TheVariants as faults
-use Rattle.op_control.specs.Adding.{added, created, or_next, priority_refusal, refusal_of, room_refusal, same_epoch, with_new_id}
+use Rattle.op_control.specs.declared.adding.TheConstants.{MOST_OPERATORS}
+use Rattle.op_control.specs.declared.adding.AddFault.{AddFault}
+use Rattle.op_control.specs.declared.adding.AddFault.TheVariants as faults
+use Rattle.op_control.specs.Adding.{added, created, priority_refusal, refusal_of, room_refusal, same_epoch, with_new_id}
 use Rattle.op_control.specs.Charging.{first_refused}
 use Rattle.op_control.specs.Table.{Table, active_at, active_by, dispatched, turned_by}
 use Rattle.op_control.specs.Turn.{turned}
-use Rattle.op_control.proofs.TableLemmas.{get-insert, same-insert}
 use Rattle.pd_state.specs.Adding.{Around, Planning, Work, add_op, asks_id}
 use Rattle.pd_state.specs.Asking.{Hearing, Point, done, ended, waits}
 use Rattle.pd_state.specs.Checking.{Round, check_op, first_round, is_busy, plans_in, round_after, stopped_round, sweep, visit}
@@ -96,7 +97,7 @@ same_test : (epoch : Epoch) → same_epoch epoch epoch ≡ true
 same_test epoch = grind (arith, nat_tests)
 
 limit_by : (b : Bool) (active : Option Operator) (op : NewOp) (epoch : Epoch) (limited : Option Limited) (n : ℕ) (fault : AddFault) → b ≡ true → active ≡ None
-    → cond (not b) (Some (faults.EpochMoved epoch)) (or_next (priority_refusal active op) (room_refusal limited active n)) ≡ Some fault → IsLimit fault
+    → cond (not b) (Some (faults.EpochMoved epoch)) (option_or (priority_refusal active op) (room_refusal limited active n)) ≡ Some fault → IsLimit fault
 limit_by true None op epoch limited n fault is none h = room_limit limited n fault h
 limit_by true (Some active) op epoch limited n fault is none h = absurd cc
 limit_by false active op epoch limited n fault is none h = absurd cc

@@ -17,7 +17,7 @@ use Rattle.pd_types.specs.declared.store.StoreRec.{StoreRec}
 use Rattle.region_tree.specs.Standing.{table_of}
 use Rattle.region_tree.proofs.Stand.{stand_more}
 use Rattle.store_table.specs.declared.entry.StoreEntry.{StoreEntry}
-use Rattle.store_table.specs.Standing.{later}
+use Rattle.store_table.specs.Live.{later}
 use Rattle.store_table.specs.Calls.{heard as heard_entry}
 use Rattle.store_table.specs.Entries.{entry_at, placed, state_at, changed}
 use Rattle.pd_state.specs.declared.entry.Entry.{Entry}

@@ -6,6 +6,7 @@ use Rattle.pd_types.specs.declared.request.Request.{Request}
 use Rattle.pd_types.specs.declared.request.Request.TheVariants as ask
 use Rattle.pd_types.specs.declared.rule.Rule.{Rule}
 use Rattle.pd_types.specs.declared.store.StoreRec.{StoreRec}
+use Rattle.pd_types.proofs.KeyLemmas.{equal_keys}
 use Rattle.region_tree.specs.Standing.{table_of}
 use Rattle.store_table.specs.declared.entry.StoreEntry.{StoreEntry}
 use Rattle.meta_store.specs.declared.record.Cell.{Cell}
@@ -19,7 +20,6 @@ use Rattle.meta_store.specs.Doors.{answer_of}
 use Rattle.meta_store.specs.Known.{known_revision, revision_heard}
 use Rattle.meta_store.specs.Past.{is_accepted}
 use Rattle.meta_store.proofs.Kept.{kept_known}
-use Rattle.meta_store.proofs.Keys.{equal_keys}
 use Rattle.rule_set.specs.Changes.{with_rule}
 use Rattle.rule_set.specs.Order.{AreApart, without}
 use Rattle.rule_set.proofs.SetLemmas.{left_from, left_old, with_from, with_here, with_old}

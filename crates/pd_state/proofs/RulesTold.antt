@@ -7,19 +7,19 @@ use Rattle.std.proofs.lemmas.Bool.Decides.{nat_tests}
 use Rattle.std.proofs.lemmas.List.{length-append}
 use Rattle.std.proofs.lemmas.List.Elements.{All-cons}
 use Rattle.std.specs.List.{All, Any, Contains}
-use Rattle.pd_types.specs.BeatCheck.{is_below}
 use Rattle.pd_types.specs.declared.rule.Rule.{Rule}
+use Rattle.pd_types.specs.Keys.{is_below}
+use Rattle.pd_types.proofs.Members.{contains_none}
+use Rattle.pd_types.proofs.KeyLemmas.{equal_keys, not_below_itself, same_keys}
 use Rattle.hex.specs.Hex.{encode_with}
 use Rattle.rule_set.specs.declared.set.TheConstants.{MOST_RULES}
 use Rattle.rule_set.specs.Changes.{with_rule}
 use Rattle.rule_set.specs.Order.{AreApart, comes_before, is_named, without}
-use Rattle.rule_set.proofs.Members.{contains_none}
 use Rattle.rule_set.proofs.SetLemmas.{with_from, with_here, with_old}
 use Rattle.rule_text.specs.declared.fault.RuleFault.{RuleFault}
 use Rattle.rule_text.specs.Tests.{Means}
 use Rattle.meta_store.specs.declared.record.Cell.{Cell}
 use Rattle.meta_store.specs.Cells.{AreRising}
-use Rattle.meta_store.proofs.Keys.{equal_keys, not_below_itself, same_keys}
 use Rattle.pd_state.specs.HandedOut.{rule_more, rules_told}
 use Rattle.pd_state.specs.Known.{AreRulesTold}
 use Rattle.pd_state.proofs.RuleTexts.{means_told}

@@ -18,7 +18,7 @@ use Rattle.meta_store.specs.declared.record.MetaVerdict.{MetaVerdict}
 use Rattle.meta_store.specs.declared.record.MetaVerdict.TheVariants as verdicts
 use Rattle.op_control.specs.Adding.{refusal_of, with_new_id}
 use Rattle.op_control.specs.declared.operator.NewOp.{NewOp}
-use Rattle.op_control.specs.declared.table.AddFault.{AddFault}
+use Rattle.op_control.specs.declared.adding.AddFault.{AddFault}
 use Rattle.op_control.specs.declared.turn.Dispatch.{Dispatch}
 use Rattle.op_control.specs.declared.turn.Dispatch.TheVariants as dispatch
 use Rattle.op_step.specs.Peers.{has_id}

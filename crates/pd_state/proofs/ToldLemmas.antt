@@ -5,13 +5,13 @@ use Rattle.std.proofs.lemmas.List.{length-append}
 use Rattle.std.proofs.lemmas.List.Elements.{All-cons}
 use Rattle.std.specs.List.{cons_option}
 use Rattle.std.specs.List.{All, Any}
-use Rattle.pd_types.specs.BeatCheck.{is_below}
 use Rattle.pd_types.specs.declared.store.StoreRec.{StoreRec}
+use Rattle.pd_types.specs.Keys.{is_below}
+use Rattle.pd_types.proofs.KeyLemmas.{not_below_itself}
 use Rattle.store_table.specs.declared.table.TheConstants.{MOST_STORES}
 use Rattle.meta_store.specs.declared.record.Cell.{Cell}
 use Rattle.meta_store.specs.Cells.{AreRising}
 use Rattle.meta_store.specs.Stores.{store_key}
-use Rattle.meta_store.proofs.Keys.{not_below_itself}
 use Rattle.meta_store.proofs.Stored.{store_read}
 use Rattle.pd_state.specs.HandedOut.{record_at, store_in, store_more, stores_told, with_record}
 use Rattle.pd_state.specs.Known.{AreTold}

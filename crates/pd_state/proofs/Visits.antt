@@ -3,7 +3,7 @@ use Rattle.std.proofs.Common.{refl, ◌≡◌, ℕ, ◌+◌, Bool, true, false, 
 use Rattle.std.specs.Prelude.{Result, Ok, Err}
 use Rattle.pd_types.specs.declared.region.RegionBeat.{RegionBeat}
 use Rattle.op_control.specs.declared.operator.NewOp.{NewOp}
-use Rattle.op_control.specs.declared.table.AddFault.{AddFault}
+use Rattle.op_control.specs.declared.adding.AddFault.{AddFault}
 use Rattle.op_control.specs.Adding.{refusal_of}
 use Rattle.pd_state.specs.Adding.{Adds, Around, Drawn, Planning, Work, add_by, add_op, asks_id, enter, entered, entered_with, free_id, planning_of, work}
 use Rattle.pd_state.specs.Asking.{Ear, Hearing, Talks, done, hearing}

@@ -14,7 +14,7 @@ use Rattle.id_alloc.specs.Windows.{Window, id_call, is_spent, is_used_up, with_n
 use Rattle.store_limit.specs.Limits.{StoreLimits}
 use Rattle.op_step.specs.Peers.{has_id}
 use Rattle.op_control.specs.declared.operator.NewOp.{NewOp}
-use Rattle.op_control.specs.declared.table.AddFault.{AddFault}
+use Rattle.op_control.specs.declared.adding.AddFault.{AddFault}
 use Rattle.op_control.specs.Adding.{added, refusal_of, with_new_id}
 use Rattle.op_control.specs.Charging.{after_charges}
 use Rattle.op_control.specs.Table.{Table, dispatch_answer, dispatched}

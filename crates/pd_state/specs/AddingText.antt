@@ -8,8 +8,8 @@ use Rattle.op_step.specs.declared.safety.Why.{Why}
 use Rattle.op_step.specs.declared.safety.Why.TheVariants as why
 use Rattle.op_control.specs.declared.operator.OpState.{OpState}
 use Rattle.op_control.specs.declared.operator.OpState.TheVariants as states
-use Rattle.op_control.specs.declared.table.AddFault.{AddFault}
-use Rattle.op_control.specs.declared.table.AddFault.TheVariants as faults
+use Rattle.op_control.specs.declared.adding.AddFault.{AddFault}
+use Rattle.op_control.specs.declared.adding.AddFault.TheVariants as faults
 use Rattle.op_control.specs.declared.turn.Dispatch.{Dispatch}
 use Rattle.op_control.specs.declared.turn.Dispatch.TheVariants as dispatch
 use Rattle.rule_checker.specs.declared.class.Class.{Class}

@@ -9,8 +9,8 @@ use Rattle.store_table.specs.Entries.{state_at}
 use Rattle.region_tree.specs.Cover.{covers_all}
 use Rattle.heartbeat.specs.Counts.{region_count}
 use Rattle.op_control.specs.declared.operator.Operator.{Operator}
-use Rattle.op_control.specs.declared.table.AddFault.{AddFault}
-use Rattle.op_control.specs.declared.table.AddFault.TheVariants as faults
+use Rattle.op_control.specs.declared.adding.AddFault.{AddFault}
+use Rattle.op_control.specs.declared.adding.AddFault.TheVariants as faults
 use Rattle.op_control.specs.Adding.{refusal_of}
 use Rattle.op_control.specs.Table.{Table}
 use Rattle.pd_state.specs.Adding.{Around, Planning}

@@ -14,7 +14,7 @@ use Rattle.store_limit.specs.Limits.{known}
 use Rattle.id_alloc.specs.Windows.{window_in}
 use Rattle.op_control.specs.Table.{Table, canceled, dispatched}
 use Rattle.store_table.specs.declared.entry.StoreEntry.{StoreEntry}
-use Rattle.store_table.specs.Standing.{later}
+use Rattle.store_table.specs.Live.{later}
 use Rattle.rule_set.specs.Changes.{with_rule}
 use Rattle.rule_set.specs.Order.{without}
 use Rattle.rule_text.specs.declared.fault.RuleFault.{RuleFault}

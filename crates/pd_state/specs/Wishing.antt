@@ -4,7 +4,7 @@ use Rattle.pd_types.specs.declared.proposal.Proposal.{Proposal}
 use Rattle.pd_types.specs.declared.proposal.Proposal.TheVariants as proposals
 use Rattle.pd_types.specs.declared.region.RegionBeat.{RegionBeat}
 use Rattle.op_control.specs.declared.operator.NewOp.{NewOp}
-use Rattle.op_control.specs.declared.table.AddFault.TheVariants as faults
+use Rattle.op_control.specs.declared.adding.AddFault.TheVariants as faults
 use Rattle.op_step.specs.Wishes.{Plan, plan_of}
 use Rattle.op_step.specs.declared.wishes.Wish.{Wish}
 use Rattle.op_step.specs.declared.wishes.Wish.TheVariants as wishes

@@ -24,7 +24,7 @@ ghost use Rattle.meta_store.specs.Known.{known_revision};
 ghost use Rattle.meta_store.specs.Stores.{IsStore, store_bytes, store_key};
 ghost use Rattle.store_table.specs.declared.entry.StoreEntry.{StoreEntry};
 ghost use Rattle.store_table.specs.Entries.{entry_at, state_at};
-ghost use Rattle.store_table.specs.Standing.{later};
+ghost use Rattle.store_table.specs.Live.{later};
 ghost use Rattle.rule_set.specs.Changes.{default_rule};
 ghost use Rattle.rule_text.specs.declared.fault.RuleFault.{RuleFault};
 ghost use Rattle.rule_text.specs.declared.fault.RuleFault.TheVariants.{NoMemory};

@@ -5,7 +5,7 @@ use Rattle.std.proofs.lemmas.Bool.Decides.{nat_tests}
 use Rattle.std.proofs.lemmas.List.Folds.{Any-from_list_any, list_any-from_Any, list_any_at, list_any_none}
 use Rattle.std.proofs.lemmas.List.Kept.{AllPairs-cons}
 use Rattle.std.specs.List.{find, list_any, All, AllPairs, Any}
-use Rattle.pd_types.specs.BeatCheck.{fails, fault_number, first_fault, has_id, has_store, is_below, leader_is_no_voter, shares_id, shares_store, tests}
+use Rattle.pd_types.specs.BeatCheck.{fails, fault_number, first_fault, has_id, has_store, leader_is_no_voter, shares_id, shares_store, tests}
 use Rattle.pd_types.specs.WellFormed.{IsLeastFault, IsWellFormed, Leads}
 use Rattle.pd_types.specs.Roles.{is_voter}
 use Rattle.pd_types.specs.declared.beat.BeatFault.{BeatFault}
@@ -14,6 +14,9 @@ use Rattle.pd_types.specs.declared.region.Peer.{Peer}
 use Rattle.pd_types.specs.declared.region.RegionBeat.{RegionBeat}
 use Rattle.pd_types.specs.declared.region.Role.{Role}
 use Rattle.pd_types.specs.declared.region.Role.TheVariants.{Voter, Learner, Incoming, Demoting}
+use Rattle.pd_types.specs.Keys.{is_bad_range, is_below}
+use Rattle.pd_types.proofs.Pairs.{pairs_head, pairs_nil, pairs_tail}
+use Rattle.pd_types.proofs.Bools.{not_false, or_both, or_false}
 
 placed : (fault : BeatFault) → slice_get tests (fault_number fault - 1) ≡ Some fault
 placed NoPeers = refl
@@ -112,46 +115,29 @@ first_apart f x xs apart = list_any_none (λ peer. nat_eq (f peer) (f x)) xs (λ
     other : (a b : ℕ) → a ≢ b → nat_eq a b ≡ false
     other a b h = grind (arith, nat_tests)
 
-pairs_nil : {X : Type 0} (R : X → X → Type 0) → AllPairs R []
-pairs_nil R i j d less low = absurd (omega arith)
-
-pairs_head : {X : Type 0} (R : X → X → Type 0) (x : X) (xs : List X) → AllPairs R (x ∷ xs) → All (R x) xs
-pairs_head R x xs pairs k d low = pairs 0 (suc k) d (omega arith) (omega arith)
-
-pairs_tail : {X : Type 0} (R : X → X → Type 0) (x : X) (xs : List X) → AllPairs R (x ∷ xs) → AllPairs R xs
-pairs_tail R x xs pairs i j d less low = pairs (suc i) (suc j) d (omega arith) (omega arith)
-
-neither : (a b : Bool) → (a || b) ≡ false → (a ≡ false) × (b ≡ false)
-neither true b h = absurd (cc)
-neither false b h = (refl, h)
-
-nor : (a b : Bool) → a ≡ false → b ≡ false → (a || b) ≡ false
-nor true b h k = absurd (cc)
-nor false b h k = k
-
 pub ids_apart : (peers : List Peer) → shares_id peers ≡ false → AllPairs (λ (a b : Peer). a.id ≢ b.id) peers
 ids_apart [] none = pairs_nil (λ (a b : Peer). a.id ≢ b.id)
 ids_apart (x ∷ xs) none =
-    let parts = neither (has_id xs x.id) (shares_id xs) none in
+    let parts = or_false (has_id xs x.id) (shares_id xs) none in
     AllPairs-cons (λ (a b : Peer). a.id ≢ b.id) x xs (apart_first (λ peer. peer.id) x xs parts.0) (ids_apart xs parts.1)
 
 apart_ids : (peers : List Peer) → AllPairs (λ (a b : Peer). a.id ≢ b.id) peers → shares_id peers ≡ false
 apart_ids [] apart = refl
 apart_ids (x ∷ xs) apart =
-    nor (has_id xs x.id) (shares_id xs)
+    or_both (has_id xs x.id) (shares_id xs)
     (first_apart (λ peer. peer.id) x xs (pairs_head (λ (a b : Peer). a.id ≢ b.id) x xs apart))
     (apart_ids xs (pairs_tail (λ (a b : Peer). a.id ≢ b.id) x xs apart))
 
 pub stores_apart : (peers : List Peer) → shares_store peers ≡ false → AllPairs (λ (a b : Peer). a.store ≢ b.store) peers
 stores_apart [] none = pairs_nil (λ (a b : Peer). a.store ≢ b.store)
 stores_apart (x ∷ xs) none =
-    let parts = neither (has_store xs x.store) (shares_store xs) none in
+    let parts = or_false (has_store xs x.store) (shares_store xs) none in
     AllPairs-cons (λ (a b : Peer). a.store ≢ b.store) x xs (apart_first (λ peer. peer.store) x xs parts.0) (stores_apart xs parts.1)
 
 apart_stores : (peers : List Peer) → AllPairs (λ (a b : Peer). a.store ≢ b.store) peers → shares_store peers ≡ false
 apart_stores [] apart = refl
 apart_stores (x ∷ xs) apart =
-    nor (has_store xs x.store) (shares_store xs)
+    or_both (has_store xs x.store) (shares_store xs)
     (first_apart (λ peer. peer.store) x xs (pairs_head (λ (a b : Peer). a.store ≢ b.store) x xs apart))
     (apart_stores xs (pairs_tail (λ (a b : Peer). a.store ≢ b.store) x xs apart))
 
@@ -160,11 +146,6 @@ votes Voter h = refl
 votes Learner h = absurd (cc)
 votes Incoming h = absurd (cc)
 votes Demoting h = absurd (cc)
-
-no_other : (a b : Bool) → (a && not b) ≡ false → a ≡ true → b ≡ true
-no_other true true h k = refl
-no_other true false h k = absurd (cc)
-no_other false b h k = absurd (cc)
 
 led : (leader : ℕ) (peers : List Peer) → has_id peers leader ≡ true → leader_is_no_voter peers leader ≡ false → Any (Leads leader) peers
 led leader peers present voter = by (Any-from_list_any (λ peer. nat_eq peer.id leader) peers present)
@@ -196,16 +177,16 @@ some_peers n h = grind (arith, nat_tests)
 at_most : (n : ℕ) (most : ℕ) → nat_lt most n ≡ false → n ≤ most
 at_most n most h = grind (arith, nat_tests)
 
-in_range : (start end : List ℕ) → (nat_lt 0 (length end) && not (is_below start end)) ≡ false → (end ≡ []) ⊎ (is_below start end ≡ true)
-in_range start [] h = inl refl
-in_range start (byte ∷ end) h = inr (no_other (nat_lt 0 (length (byte ∷ end))) (is_below start (byte ∷ end)) h (some (length end)))
+rises : (start end : List ℕ) → is_bad_range start end ≡ false → (end ≡ []) ⊎ (is_below start end ≡ true)
+rises start [] h = inl refl
+rises start (byte ∷ end) h = inr (past (nat_eq (length (byte ∷ end)) 0) (is_below start (byte ∷ end)) (some (length end)) h)
   where
-    some : (n : ℕ) → nat_lt 0 (suc n) ≡ true
+    some : (n : ℕ) → nat_eq (suc n) 0 ≡ false
     some n = grind (arith, nat_tests)
 
-seen : (b : Bool) → not b ≡ false → b ≡ true
-seen true h = refl
-seen false h = absurd (cc)
+    past : (a b : Bool) → a ≡ false → not (a || b) ≡ false → b ≡ true
+    past true b is h = absurd (cc)
+    past false b is h = not_false b h
 
 pub passes_formed : (beat : RegionBeat) → first_fault beat ≡ None → IsWellFormed beat
 passes_formed beat h =
@@ -218,14 +199,14 @@ passes_formed beat h =
     let f = not_first (fails beat LeaderNotVoter) LeaderNotVoter _ e.1 in
     let g = not_first (fails beat BadRange) BadRange _ f.1 in
     let i = not_first (fails beat LongKey) LongKey _ g.1 in
-    let keys = neither (nat_lt 4096 (length beat.region.start)) (nat_lt 4096 (length beat.region.end)) i.0 in
+    let keys = or_false (nat_lt 4096 (length beat.region.start)) (nat_lt 4096 (length beat.region.end)) i.0 in
     record {
       some = some_peers (length peers) a.0;
       few = at_most (length peers) 15 b.0;
       ids = ids_apart peers c.0;
       stores = stores_apart peers d.0;
-      leader = led beat.leader peers (seen (has_id peers beat.leader) e.0) f.0;
-      range = in_range beat.region.start beat.region.end g.0;
+      leader = led beat.leader peers (not_false (has_id peers beat.leader) e.0) f.0;
+      range = rises beat.region.start beat.region.end g.0;
       start = at_most (length beat.region.start) 4096 keys.0;
       end = at_most (length beat.region.end) 4096 keys.1;
     }
@@ -236,13 +217,13 @@ not_none n h = grind (arith, nat_tests)
 not_more : (n most : ℕ) → n ≤ most → nat_lt most n ≡ false
 not_more n most h = grind (arith, nat_tests)
 
-holds_range : (start end : List ℕ) → (end ≡ []) ⊎ (is_below start end ≡ true) → (nat_lt 0 (length end) && not (is_below start end)) ≡ false
+holds_range : (start end : List ℕ) → (end ≡ []) ⊎ (is_below start end ≡ true) → is_bad_range start end ≡ false
 holds_range start end (inl none) = rw none refl
-holds_range start end (inr below) = rw below (and_no (nat_lt 0 (length end)))
+holds_range start end (inr below) = rw below (either (nat_eq (length end) 0))
   where
-    and_no : (a : Bool) → a && false ≡ false
-    and_no true = refl
-    and_no false = refl
+    either : (a : Bool) → not (a || true) ≡ false
+    either true = refl
+    either false = refl
 
 -- two peers of one id are one peer
 one_place : (xs : List Peer) (i j : ℕ) (x : Peer) → AllPairs (λ (a b : Peer). a.id ≢ b.id) xs → i < length xs → j < length xs → (get_or xs i x).id ≡ (get_or xs j x).id → i ≡ j

@@ -1,13 +1,12 @@
 -- What a region heartbeat must meet by itself (pdpb, `RegionHeartbeatRequest`; the tests and their order are our own choice).
 use Rattle.std.specs.Prelude.{ℕ, List, [], ◌∷◌, length, Bool, false, not, ◌&&◌, ◌||◌, nat_eq, nat_lt, Option}
-use Rattle.std.specs.Cmp.Lexicographic.{slice_cmp}
 use Rattle.std.specs.List.{find, list_any}
-use Rattle.std.specs.Ordering.{is_lt, nat_cmp}
 use Rattle.pd_types.specs.declared.beat.TheConstants.{MAX_KEY, MAX_PEERS}
 use Rattle.pd_types.specs.declared.beat.BeatFault.{BeatFault}
 use Rattle.pd_types.specs.declared.beat.BeatFault.TheVariants.{NoPeers, TooManyPeers, DoublePeer, DoubleStore, LeaderAbsent, LeaderNotVoter, BadRange, LongKey}
 use Rattle.pd_types.specs.declared.region.Peer.{Peer}
 use Rattle.pd_types.specs.declared.region.RegionBeat.{RegionBeat}
+use Rattle.pd_types.specs.Keys.{is_bad_range}
 use Rattle.pd_types.specs.Roles.{is_voter}
 
 -- some peer has this id
@@ -28,17 +27,9 @@ abbrev pub shares_store : List Peer → Bool
 shares_store [] = false
 shares_store (peer ∷ peers) = has_store peers peer.store || shares_store peers
 
--- the first key is below the second, byte by byte
-abbrev pub is_below : List ℕ → List ℕ → Bool
-is_below key other = is_lt (slice_cmp nat_cmp key other)
-
 -- a peer with the leader's id is no voter
 abbrev pub leader_is_no_voter : List Peer → ℕ → Bool
 leader_is_no_voter peers leader = list_any (λ peer. nat_eq peer.id leader && not (is_voter peer.role)) peers
-
--- the end isn't empty and isn't above the start
-abbrev pub is_bad_range : List ℕ → List ℕ → Bool
-is_bad_range start end = nat_lt 0 (length end) && not (is_below start end)
 
 -- the heartbeat fails this test
 abbrev pub fails : RegionBeat → BeatFault → Bool

@@ -1,6 +1,7 @@
 pub mod Batch
 pub mod BeatCheck
 pub mod Bytes
+pub mod Keys
 pub mod Roles
 pub mod StepText
 pub mod ProposalText

@@ -1,11 +1,12 @@
 -- What a region heartbeat that passes its tests says (pdpb, `RegionHeartbeatRequest`; the bounds are our own choice).
 use Rattle.std.specs.Prelude.{◌≡◌, ◌≢◌, ◌≤◌, ◌⊎◌, ℕ, true, [], length}
 use Rattle.std.specs.List.{AllPairs, Any}
-use Rattle.pd_types.specs.BeatCheck.{fails, fault_number, is_below}
+use Rattle.pd_types.specs.BeatCheck.{fails, fault_number}
 use Rattle.pd_types.specs.declared.beat.BeatFault.{BeatFault}
 use Rattle.pd_types.specs.declared.region.Peer.{Peer}
 use Rattle.pd_types.specs.declared.region.RegionBeat.{RegionBeat}
 use Rattle.pd_types.specs.declared.region.Role.TheVariants.{Voter}
+use Rattle.pd_types.specs.Keys.{is_below}
 
 -- the peer has the leader's id, and a vote
 pub record Leads (leader : ℕ) (peer : Peer) : Type 0 where

@@ -1,7 +1,8 @@
 // What a region heartbeat must meet by itself.
 ghost use Rattle.std.specs.Prelude.{◌≡◌, ◌↔◌, IsOk, IfErr};
 ghost use Rattle.std.specs.List.{find};
-ghost use Rattle.pd_types.specs.BeatCheck.{fails, first_fault, has_id, has_store, is_bad_range, leader_is_no_voter, shares_id, shares_store};
+ghost use Rattle.pd_types.specs.BeatCheck.{fails, first_fault, has_id, has_store, leader_is_no_voter, shares_id, shares_store};
+ghost use Rattle.pd_types.specs.Keys.{is_bad_range};
 ghost use Rattle.pd_types.specs.WellFormed.{IsLeastFault, IsWellFormed};
 
 use crate::{Peer, RegionBeat, Role};
@@ -83,7 +84,7 @@ fn is_bad_range(start: &[u8], end: &[u8]) -> bool
     ensures value { result ≡ is_bad_range start.now end.now }
 {
     let rises = start.cmp(end).is_lt();
-    !end.is_empty() && !rises
+    !(end.is_empty() || rises)
 }
 
 // Whether the heartbeat fails this test.

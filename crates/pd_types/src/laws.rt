@@ -1,6 +1,6 @@
 // What the definitions give, by themselves.
 ghost use Rattle.std.specs.Prelude.{◌≡◌, ◌↔◌, ◌<◌, ℕ, true, List, ◌∷◌, ◌++◌};
-ghost use Rattle.pd_types.specs.BeatCheck.{is_below};
+ghost use Rattle.pd_types.specs.Keys.{is_below};
 ghost use Rattle.pd_types.specs.Roles.{is_learner, is_voter};
 ghost use Rattle.pd_types.specs.declared.region.Role.{Role};
 ghost use Rattle.pd_types.specs.declared.region.Role.TheVariants.{Learner, Voter};

@@ -27,13 +27,6 @@ impl Text {
         Text { text }
     }
 
-    /// Gives the string back, without taking memory.
-    pub fn into_string(self) -> String
-        ensures value { string_bytes result ≡ self }
-    {
-        self.text
-    }
-
     /// The text as std's.
     pub fn as_str(&self) -> &str
         ensures value { result.now ≡ self.now }

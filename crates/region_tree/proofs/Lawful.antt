@@ -3,18 +3,20 @@ use Rattle.std.proofs.Common.{refl, ◌≡◌, ◌≢◌, ℕ, ◌+◌, ◌<◌,
 use Rattle.std.proofs.lemmas.Bool.Decides.{nat_tests}
 use Rattle.std.proofs.lemmas.List.Elements.{All-head, All-tail, filter_passes}
 use Rattle.std.specs.List.{All, filter, find}
-use Rattle.std.specs.Option.{option_map}
-use Rattle.pd_types.specs.BeatCheck.{is_below}
+use Rattle.std.specs.Option.{option_map, option_or}
 use Rattle.pd_types.specs.declared.region.Epoch.{Epoch}
 use Rattle.pd_types.specs.declared.region.RegionBeat.{RegionBeat}
-use Rattle.region_tree.specs.Ranges.{holds, overlaps, is_before_end, HasRange}
-use Rattle.region_tree.specs.Stale.{is_behind, is_behind_overlapped, or_else, put_beat, put_refusal, refusal_by, stale_by}
+use Rattle.pd_types.specs.Keys.{is_before_end, is_below}
+use Rattle.pd_types.proofs.KeyLemmas.{not_below_itself}
+use Rattle.pd_types.proofs.Bools.{and_left, and_right, or_both}
+use Rattle.pd_types.proofs.Numbers.{differ, equal, less, not_less}
+use Rattle.pd_types.proofs.Filters.{find_none}
+use Rattle.region_tree.specs.Ranges.{holds, overlaps, HasRange}
+use Rattle.region_tree.specs.Stale.{is_behind, is_behind_overlapped, put_beat, put_refusal, refusal_by, stale_by}
 use Rattle.region_tree.specs.Standing.{insert_by_key, stays}
 use Rattle.region_tree.specs.declared.fault.RegionFault.TheVariants as faults
-use Rattle.region_tree.proofs.Keys.{holds_start, not_below_itself}
+use Rattle.region_tree.proofs.Keys.{holds_start}
 use Rattle.region_tree.proofs.Order.{all_insert, stays_split}
-use Rattle.region_tree.proofs.Rows.{find_none}
-use Rattle.region_tree.proofs.Runs.{and_left, and_right}
 
 -- ranges
 not_empty : (key : List ℕ) → key ≢ [] → nat_eq (length key) 0 ≡ false
@@ -35,22 +37,6 @@ ranges_touch one other h is =
     and_right (is_before_end one.region.start other.region.end) (is_before_end other.region.start one.region.end) (ap (λ (s : List ℕ). is_before_end s one.region.end) is ∙ past_end one.region.end h)
 
 -- staleness
-not_less : (a b : ℕ) → b ≤ a → nat_lt a b ≡ false
-not_less a b h = grind (arith, nat_tests)
-
-less : (a b : ℕ) → a < b → nat_lt a b ≡ true
-less a b h = grind (arith, nat_tests)
-
-differ : (a b : ℕ) → a ≢ b → nat_eq a b ≡ false
-differ a b h = grind (arith, nat_tests)
-
-equal : (a b : ℕ) → a ≡ b → nat_eq a b ≡ true
-equal a b h = grind (arith, nat_tests)
-
-or_both : (a b : Bool) → a ≡ false → b ≡ false → a || b ≡ false
-or_both true b h k = h
-or_both false b h k = k
-
 own_not_behind : (beat : RegionBeat) → is_behind beat beat ≡ false
 own_not_behind beat =
     and_right (nat_eq beat.region.id beat.region.id) _
@@ -58,7 +44,7 @@ own_not_behind beat =
 
 pub again_fresh : (beat : RegionBeat) (held : List RegionBeat) → stale_by beat (put_beat beat held) ≡ None
 again_fresh beat held =
-    ap (λ (o : Option RegionBeat). or_else (option_map (λ (one : RegionBeat). one.region.epoch) o) (option_map (λ (one : RegionBeat). one.region.epoch) (find (is_behind_overlapped beat) (put_beat beat held))))
+    ap (λ (o : Option RegionBeat). option_or (option_map (λ (one : RegionBeat). one.region.epoch) o) (option_map (λ (one : RegionBeat). one.region.epoch) (find (is_behind_overlapped beat) (put_beat beat held))))
     (find_none (is_behind beat) (put_beat beat held) (all_insert (λ one. is_behind beat one ≡ false) beat (filter (stays beat) held) (own_not_behind beat) (λ k d low. and_left _ _ (stays_split beat (get_or (filter (stays beat) held) k d) (filter_passes (stays beat) held k d low)).0)))
     ∙ ap (option_map (λ (one : RegionBeat). one.region.epoch))
     (find_none (is_behind_overlapped beat) (put_beat beat held) (all_insert (λ one. is_behind_overlapped beat one ≡ false) beat (filter (stays beat) held)
@@ -93,7 +79,7 @@ behind_own older beat is by = both (nat_eq beat.region.id older.region.id) _ (eq
 
 pub older_stale : (older beat : RegionBeat) (held : List RegionBeat) → older.region.id ≡ beat.region.id → (older.region.epoch.version < beat.region.epoch.version) ⊎ (older.region.epoch.conf_ver < beat.region.epoch.conf_ver) → stale_by older (put_beat beat held) ≡ Some beat.region.epoch
 older_stale older beat held is by =
-    ap (λ (o : Option RegionBeat). or_else (option_map (λ (one : RegionBeat). one.region.epoch) o) (option_map (λ (one : RegionBeat). one.region.epoch) (find (is_behind_overlapped older) (put_beat beat held))))
+    ap (λ (o : Option RegionBeat). option_or (option_map (λ (one : RegionBeat). one.region.epoch) o) (option_map (λ (one : RegionBeat). one.region.epoch) (find (is_behind_overlapped older) (put_beat beat held))))
     (find_inserted (is_behind older) beat (filter (stays beat) held) (behind_own older beat is by)
     (λ k d low. and_left _ _ (subst (λ n. nat_eq (get_or (filter (stays beat) held) k d).region.id n ≡ false) (sym is) (stays_split beat (get_or (filter (stays beat) held) k d) (filter_passes (stays beat) held k d low)).0)))
 
@@ -102,14 +88,14 @@ other_behind beat one h = and_left (nat_eq one.region.id beat.region.id) _ (diff
 
 pub overlapped_stale : (beat one : RegionBeat) (rest : List RegionBeat) → All (λ other. other.region.id ≢ beat.region.id) (one ∷ rest) → overlaps beat one ≡ true → beat.region.epoch.version < one.region.epoch.version → stale_by beat (one ∷ rest) ≡ Some one.region.epoch
 overlapped_stale beat one rest others over old =
-    ap (λ (o : Option RegionBeat). or_else (option_map (λ (one : RegionBeat). one.region.epoch) o) (option_map (λ (one : RegionBeat). one.region.epoch) (find (is_behind_overlapped beat) (one ∷ rest))))
+    ap (λ (o : Option RegionBeat). option_or (option_map (λ (one : RegionBeat). one.region.epoch) o) (option_map (λ (one : RegionBeat). one.region.epoch) (find (is_behind_overlapped beat) (one ∷ rest))))
     (find_none (is_behind beat) (one ∷ rest) (λ k d low. other_behind beat (get_or (one ∷ rest) k d) (others k d low)))
     ∙ ap (λ (c : Bool). option_map (λ (one : RegionBeat). one.region.epoch) (cond c (Some one) (find (is_behind_overlapped beat) rest)))
     (ap (λ (c : Bool). c && nat_lt beat.region.epoch.version one.region.epoch.version) over ∙ less beat.region.epoch.version one.region.epoch.version old)
 
 pub newer_fresh : (beat one : RegionBeat) → one.region.id ≢ beat.region.id → one.region.epoch.version ≤ beat.region.epoch.version → stale_by beat (one ∷ []) ≡ None
 newer_fresh beat one other new =
-    ap (λ (c : Bool). or_else (option_map (λ (one : RegionBeat). one.region.epoch) (cond c (Some one) None)) (option_map (λ (one : RegionBeat). one.region.epoch) (cond (is_behind_overlapped beat one) (Some one) None))) (other_behind beat one other)
+    ap (λ (c : Bool). option_or (option_map (λ (one : RegionBeat). one.region.epoch) (cond c (Some one) None)) (option_map (λ (one : RegionBeat). one.region.epoch) (cond (is_behind_overlapped beat one) (Some one) None))) (other_behind beat one other)
     ∙ ap (λ (c : Bool). option_map (λ (one : RegionBeat). one.region.epoch) (cond c (Some one) None)) (and_right (overlaps beat one) _ (not_less beat.region.epoch.version one.region.epoch.version new))
 
 -- the limit

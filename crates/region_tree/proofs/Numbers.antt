@@ -3,14 +3,14 @@ use Rattle.std.proofs.Common.{refl, ◌≡◌, ℕ, ◌+◌, ◌<◌, Bool, true
 use Rattle.std.proofs.lemmas.List.Sums.{sum_by-cons}
 use Rattle.std.specs.List.{filter, find}
 use Rattle.std.specs.Option.{option_map_or}
-use Rattle.pd_types.specs.BeatCheck.{is_below}
 use Rattle.pd_types.specs.declared.region.RegionBeat.{RegionBeat}
+use Rattle.pd_types.specs.Keys.{is_below}
+use Rattle.pd_types.proofs.Pairs.{pairs_head, pairs_tail}
 use Rattle.region_tree.specs.Ranges.{overlaps}
 use Rattle.region_tree.specs.Standing.{stays, Precedes, AreApart, insert_by_key}
 use Rattle.region_tree.specs.Stale.{put_beat}
 use Rattle.region_tree.specs.Moves.{CountMoves}
 use Rattle.region_tree.specs.Places.{others}
-use Rattle.region_tree.proofs.Order.{pairs_head, pairs_tail}
 use Rattle.region_tree.proofs.Rows.{keep_none}
 use Rattle.region_tree.proofs.Puts.{overlaps_others, stays_others}
 use Rattle.region_tree.proofs.Spots.{other_id_behind}

@@ -11,18 +11,22 @@ use Rattle.std.proofs.lemmas.List.Elements.{filter_passes}
 use Rattle.std.proofs.lemmas.List.Filters.{length-filter_both}
 use Rattle.std.proofs.lemmas.List.Kept.{AllPairs-filter}
 use Rattle.std.specs.FinMap as map
-use Rattle.pd_types.specs.BeatCheck.{is_below}
 use Rattle.pd_types.specs.declared.region.Epoch.{Epoch}
 use Rattle.pd_types.specs.declared.region.RegionBeat.{RegionBeat}
-use Rattle.region_tree.specs.Ranges.{overlaps, is_before_end, HasRange}
+use Rattle.pd_types.specs.Keys.{is_before_end, is_below}
+use Rattle.pd_types.proofs.Bools.{both, not_true, or_false, or_true}
+use Rattle.pd_types.proofs.KeyLemmas.{before_end, below_upto}
+use Rattle.pd_types.proofs.Pairs.{pairs_head, pairs_tail}
+use Rattle.pd_types.proofs.Filters.{filter_all, find_kept, find_none}
+use Rattle.region_tree.specs.Ranges.{overlaps, HasRange}
 use Rattle.region_tree.specs.Standing.{stays, Precedes, AreApart, insert_by_key}
 use Rattle.region_tree.specs.Stale.{removed_by, put_beat, stale_by, put_refusal, refusal_by}
 use Rattle.region_tree.specs.declared.fault.RegionFault.TheVariants as faults
 use Rattle.region_tree.specs.declared.table.TheConstants.{MOST_REGIONS}
 use Rattle.region_tree.specs.Places.{others, IsPlace, IsIndex, IsRun}
-use Rattle.region_tree.proofs.Keys.{both, below_upto, not_true, or_false, or_true, has_range, before_end}
-use Rattle.region_tree.proofs.Order.{pairs_head, pairs_tail, stays_split}
-use Rattle.region_tree.proofs.Rows.{keep_all, keep_none, filter_twice, filter_alike, find_kept, find_none}
+use Rattle.region_tree.proofs.Keys.{has_range}
+use Rattle.region_tree.proofs.Order.{stays_split}
+use Rattle.region_tree.proofs.Rows.{keep_none, filter_twice, filter_alike}
 use Rattle.region_tree.proofs.Runs.{below_then_upto, run_within, run_outside}
 use Rattle.region_tree.proofs.Spots.{other_id_behind, others_some, others_none}
 
@@ -282,7 +286,7 @@ in_place b xs p apart ranges range place run =
     let low : p < length xs = place.0 in
     let kept : filter (stays b) xs ≡ remove_range xs p (p + 1) =
     sym (stays_others b xs) ∙ ap (λ (l : List RegionBeat). filter (λ one. not (overlaps b one)) l) (sym (others_some xs p b.region.id apart place) ∙ run_outside b xs p (p + 1) run)
-    ∙ keep_all (λ one. not (overlaps b one)) (filter (λ one. not (overlaps b one)) xs) (filter_passes (λ one. not (overlaps b one)) xs) ∙ sym (run_outside b xs p (p + 1) run)
+    ∙ filter_all (λ one. not (overlaps b one)) (filter (λ one. not (overlaps b one)) xs) (filter_passes (λ one. not (overlaps b one)) xs) ∙ sym (run_outside b xs p (p + 1) run)
     in
     ap (insert_by_key b) kept ∙ ap (λ (n : ℕ). insert_by_key b (take p xs ++ drop n xs)) (add-one p)
     ∙ insert_between b p xs low (λ k d less within. starts_low b.region.start (get_or xs k d) (ranges k d within) (run.before k d less within)) (λ k d less within. starts_high b (get_or xs k d) range (run.behind k d (omega arith) within))

@@ -1,12 +1,8 @@
 -- Rows of a list that pass a test, filters, and what a test finds.
-use Rattle.std.proofs.Common.{refl, ◌≡◌, ℕ, zero, suc, ◌+◌, ◌-◌, ◌<◌, ◌≤◌, Bool, true, false, not, ◌&&◌, cond, List, [], ◌∷◌, length, get_or, take, drop, ap, sym, ◌∙◌, Option, Some, None, nat_lt, arith, ◌⊎◌, inl, inr}
+use Rattle.std.proofs.Common.{refl, ◌≡◌, ℕ, zero, suc, ◌+◌, ◌-◌, ◌<◌, ◌≤◌, Bool, true, false, not, ◌&&◌, cond, List, [], ◌∷◌, length, get_or, take, drop, ap, sym, ◌∙◌, Some, None, nat_lt, arith, ◌⊎◌, inl, inr}
 use Rattle.std.proofs.lemmas.Bool.Decides.{nat_tests}
 use Rattle.std.specs.List.{filter, find, slice_range, remove_range}
-
-pub keep_all : {X : Type 0} (q : X → Bool) (xs : List X) → ((k : ℕ) (d : X) → k < length xs → q (get_or xs k d) ≡ true) → filter q xs ≡ xs
-keep_all q [] all = refl
-keep_all q (x ∷ xs) all =
-    ap (λ (c : Bool). cond c (x ∷ filter q xs) (filter q xs)) (all 0 x (omega arith)) ∙ ap (λ (l : List _). x ∷ l) (keep_all q xs (λ k d low. all (suc k) d (omega arith)))
+use Rattle.pd_types.proofs.Filters.{filter_all}
 
 pub keep_none : {X : Type 0} (q : X → Bool) (xs : List X) → ((k : ℕ) (d : X) → k < length xs → q (get_or xs k d) ≡ false) → filter q xs ≡ []
 keep_none q [] none = refl
@@ -34,7 +30,7 @@ keep_mid q (suc from) n (x ∷ xs) low mid high =
 -- those outside of the middle pass
 keep_out : {X : Type 0} (q : X → Bool) (from upto : ℕ) (xs : List X) → from ≤ upto → ((k : ℕ) (d : X) → k < from → k < length xs → q (get_or xs k d) ≡ true) → ((k : ℕ) (d : X) → from ≤ k → k < upto → k < length xs → q (get_or xs k d) ≡ false)
     → ((k : ℕ) (d : X) → upto ≤ k → k < length xs → q (get_or xs k d) ≡ true) → filter q xs ≡ remove_range xs from upto
-keep_out q zero zero xs order low mid high = keep_all q xs (λ k d within. high k d (omega arith) within)
+keep_out q zero zero xs order low mid high = filter_all q xs (λ k d within. high k d (omega arith) within)
 keep_out q zero (suc upto) [] order low mid high = refl
 keep_out q zero (suc upto) (x ∷ xs) order low mid high =
     ap (λ (c : Bool). cond c (x ∷ filter q xs) (filter q xs)) (mid 0 x (omega arith) (omega arith) (omega arith))
@@ -68,20 +64,6 @@ filter_twice {X = X} p q (x ∷ xs) = by (p x) (filter_twice p q xs)
 pub filter_alike : {X : Type 0} (p q : X → Bool) → ((x : X) → p x ≡ q x) → (xs : List X) → filter p xs ≡ filter q xs
 filter_alike p q same [] = refl
 filter_alike {X = X} p q same (x ∷ xs) = ap (λ (c : Bool). cond c (x ∷ filter p xs) (filter p xs)) (same x) ∙ ap (λ (l : List X). cond (q x) (x ∷ l) l) (filter_alike p q same xs)
-
--- what a test finds that passes only what another keeps
-pub find_kept : {X : Type 0} (p q : X → Bool) → ((x : X) → p x ≡ true → q x ≡ true) → (xs : List X) → find p (filter q xs) ≡ find p xs
-find_kept p q only [] = refl
-find_kept {X = X} p q only (x ∷ xs) = by (q x) (p x) refl (only x) (find_kept p q only xs)
-  where
-    by : (s t : Bool) → p x ≡ t → (t ≡ true → s ≡ true) → find p (filter q xs) ≡ find p xs → find p (cond s (x ∷ filter q xs) (filter q xs)) ≡ cond t (Some x) (find p xs)
-    by true t is h e = ap (λ (c : Bool). cond c (Some x) (find p (filter q xs))) is ∙ ap (λ (o : Option X). cond t (Some x) o) e
-    by false true is h e = cc (h refl)
-    by false false is h e = e
-
-pub find_none : {X : Type 0} (p : X → Bool) (xs : List X) → ((k : ℕ) (d : X) → k < length xs → p (get_or xs k d) ≡ false) → find p xs ≡ None
-find_none p [] none = refl
-find_none p (x ∷ xs) none = ap (λ (c : Bool). cond c (Some x) (find p xs)) (none 0 x (omega arith)) ∙ find_none p xs (λ k d low. none (suc k) d (omega arith))
 
 pub find_first : {X : Type 0} (p : X → Bool) (i : ℕ) (xs : List X) (d : X) → i < length xs → ((k : ℕ) (d : X) → k < i → p (get_or xs k d) ≡ false) → p (get_or xs i d) ≡ true → find p xs ≡ Some (get_or xs i d)
 find_first p i [] d low before here = absurd (omega arith)

@@ -1,14 +1,16 @@
 -- The regions that a heartbeat overlaps stand in a row.
-use Rattle.std.proofs.Common.{refl, ◌≡◌, ℕ, ◌<◌, ◌≤◌, Bool, true, false, not, ◌&&◌, nat_eq, List, length, get_or, ap, sym, ◌∙◌, subst, arith, ◌⊎◌, inl, inr}
+use Rattle.std.proofs.Common.{◌≡◌, ℕ, ◌<◌, ◌≤◌, true, false, not, nat_eq, List, length, get_or, ap, sym, subst, arith, ◌⊎◌, inl, inr}
 use Rattle.std.proofs.lemmas.Bool.{cases_eq, cases_Bool}
 use Rattle.std.specs.List.{filter, All, slice_range, remove_range}
 use Rattle.std.specs.List.Sorted.{IsPartitionedBy}
-use Rattle.pd_types.specs.BeatCheck.{is_below}
 use Rattle.pd_types.specs.declared.region.RegionBeat.{RegionBeat}
-use Rattle.region_tree.specs.Ranges.{overlaps, is_before_end, HasRange, ends_before}
+use Rattle.pd_types.specs.Keys.{is_before_end, is_below}
+use Rattle.pd_types.proofs.Bools.{and_both, and_left, and_right, and_true, both, not_true, or_true}
+use Rattle.pd_types.proofs.KeyLemmas.{before_end, below_upto, upto_trans}
+use Rattle.region_tree.specs.Ranges.{overlaps, HasRange, ends_before}
 use Rattle.region_tree.specs.Standing.{AreApart}
 use Rattle.region_tree.specs.Places.{IsRun}
-use Rattle.region_tree.proofs.Keys.{both, upto_trans, below_upto, and_true, not_true, or_true, has_range, before_end, ends_below}
+use Rattle.region_tree.proofs.Keys.{has_range, ends_below}
 use Rattle.region_tree.proofs.Rows.{row_within, row_outside}
 
 -- a below b, and b at most c
@@ -59,16 +61,6 @@ upto_parted key xs apart ranges i j d not_after inside passes = from_cases (case
     from_cases (inr other) = ap not (upto_trans (get_or xs i d).region.start (get_or xs j d).region.start key (below_upto (get_or xs i d).region.start (get_or xs j d).region.start (rising xs apart ranges i j d (omega arith) inside)) (not_true (is_below key (get_or xs j d).region.start) passes))
 
 -- the run of the regions that a heartbeat overlaps
-pub and_left : (a b : Bool) → a ≡ false → a && b ≡ false
-and_left a b h = ap (λ (c : Bool). c && b) h
-
-pub and_right : (a b : Bool) → b ≡ false → a && b ≡ false
-and_right true b h = h
-and_right false b h = refl
-
-and_two : (a b : Bool) → a ≡ true → b ≡ true → a && b ≡ true
-and_two a b h k = ap (λ (c : Bool). c && b) h ∙ k
-
 pub run_is : (b : RegionBeat) (xs : List RegionBeat) (from begun upto : ℕ) → from ≤ length xs → begun ≤ length xs → upto ≤ length xs → from ≤ upto → begun ≤ upto → ((k : ℕ) → k < upto → from ≤ k → k < begun)
     → ((k : ℕ) (d : RegionBeat) → k < from → is_before_end b.region.start (get_or xs k d).region.end ≡ false) → ((k : ℕ) (d : RegionBeat) → from ≤ k → k < length xs → is_before_end b.region.start (get_or xs k d).region.end ≡ true)
     → ((k : ℕ) (d : RegionBeat) → k < begun → is_before_end (get_or xs k d).region.start b.region.end ≡ true) → ((k : ℕ) (d : RegionBeat) → begun ≤ k → k < length xs → is_before_end (get_or xs k d).region.start b.region.end ≡ false) → IsRun b xs from upto
@@ -76,7 +68,7 @@ run_is b xs from begun upto low mid high order more less before after first seco
   order = order;
   bound = high;
   before = λ k d low within. before k d low;
-  inside = λ k d low high within. and_two (is_before_end b.region.start (get_or xs k d).region.end) (is_before_end (get_or xs k d).region.start b.region.end) (after k d low within) (first k d (less k high low));
+  inside = λ k d low high within. and_both (is_before_end b.region.start (get_or xs k d).region.end) (is_before_end (get_or xs k d).region.start b.region.end) (after k d low within) (first k d (less k high low));
   behind = λ k d low within. second k d (omega arith) within;
 }
 

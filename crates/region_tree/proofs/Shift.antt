@@ -4,9 +4,9 @@ use Rattle.std.proofs.lemmas.Bool.Decides.{nat_tests}
 use Rattle.std.proofs.lemmas.List.{get_or_append_left, get_or-append_right, get_or-take, get_or-drop}
 use Rattle.std.proofs.lemmas.List.Elements.{All-filter}
 use Rattle.std.specs.List.{filter, insert, slice_range, remove_range, All}
-use Rattle.pd_types.specs.BeatCheck.{is_below}
 use Rattle.pd_types.specs.declared.region.RegionBeat.{RegionBeat}
-use Rattle.region_tree.specs.Ranges.{overlaps, is_before_end, HasRange}
+use Rattle.pd_types.specs.Keys.{is_before_end, is_below}
+use Rattle.region_tree.specs.Ranges.{overlaps, HasRange}
 use Rattle.region_tree.specs.Standing.{AreApart, insert_by_key}
 use Rattle.region_tree.specs.Places.{others, shifted, IsPlace, IsRun}
 use Rattle.region_tree.specs.Stale.{put_beat, removed_by}

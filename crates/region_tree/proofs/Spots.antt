@@ -5,15 +5,17 @@ use Rattle.std.proofs.lemmas.Bool.Decides.{nat_tests}
 use Rattle.std.proofs.lemmas.Option.{slice_get-get_or, slice_get_past, slice_get_within, get_or_from_slice_get}
 use Rattle.std.specs.List.{find, All, slice_range, remove_range, slice_get}
 use Rattle.std.specs.Option.{option_map}
-use Rattle.pd_types.specs.BeatCheck.{is_below}
 use Rattle.pd_types.specs.declared.region.RegionBeat.{RegionBeat}
-use Rattle.region_tree.specs.Ranges.{overlaps, holds, is_before_end, HasRange, ends_before}
+use Rattle.pd_types.specs.Keys.{is_before_end, is_below}
+use Rattle.pd_types.proofs.Bools.{and_left, and_right, and_true, both, not_true, or_true}
+use Rattle.pd_types.proofs.KeyLemmas.{not_below_itself}
+use Rattle.pd_types.proofs.Filters.{filter_all, find_kept, find_none}
+use Rattle.region_tree.specs.Ranges.{overlaps, holds, HasRange, ends_before}
 use Rattle.region_tree.specs.Standing.{AreApart}
 use Rattle.region_tree.specs.Stale.{is_behind, is_behind_overlapped}
 use Rattle.region_tree.specs.Places.{others, IsPlace, IsRun}
-use Rattle.region_tree.proofs.Keys.{both, not_below_itself, and_true, not_true, or_true}
-use Rattle.region_tree.proofs.Rows.{keep_all, row_outside, find_kept, find_none, find_first, not_found, lt_or}
-use Rattle.region_tree.proofs.Runs.{below_then_upto, rising, and_left, and_right, run_within}
+use Rattle.region_tree.proofs.Rows.{row_outside, find_first, not_found, lt_or}
+use Rattle.region_tree.proofs.Runs.{below_then_upto, rising, run_within}
 
 -- the region of an id stands once
 other_id : (a b c : ℕ) → nat_eq a b ≡ false → nat_eq b c ≡ true → nat_eq a c ≡ false
@@ -36,7 +38,7 @@ others_some xs p id apart place =
     (λ k d low high within. let same : k ≡ p = omega arith in subst (λ n. nat_eq (get_or xs n d).region.id id ≡ true) (sym same) (place.1 d)) (λ k d low within. lone xs p id apart place.0 place.1 k d within (omega arith))
 
 pub others_none : (xs : List RegionBeat) (id : ℕ) → IsPlace xs id None → xs ≡ others id xs
-others_none xs id place = sym (keep_all (λ one. not (nat_eq one.region.id id)) xs (λ k d low. ap not (place k d low)))
+others_none xs id place = sym (filter_all (λ one. not (nat_eq one.region.id id)) xs (λ k d low. ap not (place k d low)))
 
 -- what is found by its id
 got_head : {X : Type 0} (xs : List X) → (p : ℕ) → p < length xs → (x : X) × (slice_get xs p ≡ Some x)

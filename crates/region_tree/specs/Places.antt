@@ -3,7 +3,8 @@ use Rattle.std.specs.Prelude.{◌≡◌, ℕ, ◌-◌, ◌<◌, ◌≤◌, true,
 use Rattle.std.specs.Ordering.{nat_cmp}
 use Rattle.std.specs.FinMap as map
 use Rattle.pd_types.specs.declared.region.RegionBeat.{RegionBeat}
-use Rattle.region_tree.specs.Ranges.{overlaps, is_before_end}
+use Rattle.pd_types.specs.Keys.{is_before_end}
+use Rattle.region_tree.specs.Ranges.{overlaps}
 
 -- the regions of other ids
 abbrev pub others : ℕ → List RegionBeat → List RegionBeat

@@ -2,9 +2,9 @@ ghost use Rattle.std.specs.Prelude.{◌≡◌, ◌+◌, ◌-◌, ◌<◌, ◌≤
 ghost use Rattle.std.specs.List.{list_any, remove_range};
 ghost use Rattle.std.specs.FinMap as fin;
 ghost use Rattle.std.specs.Vec.{vec_capacity};
-ghost use Rattle.pd_types.specs.BeatCheck.{is_below};
+ghost use Rattle.pd_types.specs.Keys.{is_before_end, is_below};
 ghost use Rattle.pd_types.specs.declared.region.RegionBeat.{RegionBeat};
-ghost use Rattle.region_tree.specs.Ranges.{HasRange, is_before_end, overlaps};
+ghost use Rattle.region_tree.specs.Ranges.{HasRange, overlaps};
 ghost use Rattle.region_tree.specs.Standing.{AreApart, insert_by_key, stays};
 ghost use Rattle.region_tree.specs.Stale.{ids_of, put_beat, removed_by};
 ghost use Rattle.region_tree.specs.Places.{others, IsPlace, IsIndex, IsRun};

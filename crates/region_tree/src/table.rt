@@ -1,7 +1,8 @@
 // The regions of a cluster in one term.
 ghost use Rattle.std.specs.Prelude.{◌≡◌, ℕ, ◌+◌, ◌-◌, ◌<◌, ◌↔◌, IsTrue, List, [], ◌∷◌, Some, None, All, Bool, IfSome, IfOk, IfErr, OnOk, OnErr, MatchOption, find, nat_eq, length, slice_get, true, is_some, if◌then◌else◌};
 ghost use Rattle.std.specs.Option.{option_copied};
-ghost use Rattle.pd_types.specs.BeatCheck.{first_fault, is_below};
+ghost use Rattle.pd_types.specs.BeatCheck.{first_fault};
+ghost use Rattle.pd_types.specs.Keys.{is_below};
 ghost use Rattle.pd_types.specs.declared.region.RegionBeat.{RegionBeat};
 ghost use Rattle.region_tree.specs.Cover.{CoverAll, covers_all};
 ghost use Rattle.region_tree.specs.Moves.{CountMoves, displaced_by};

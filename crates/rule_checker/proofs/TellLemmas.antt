@@ -4,16 +4,15 @@ use Rattle.pd_types.specs.declared.memory.NoMemory.{NoMemory}
 use Rattle.std.proofs.lemmas.Bool.{true≢false}
 use Rattle.std.proofs.lemmas.Bool.Decides.{nat_tests}
 use Rattle.std.specs.List.{Contains, filter, find, list_any}
-use Rattle.std.specs.Ordering.{is_lt}
 use Rattle.pd_types.specs.declared.region.Peer.{Peer}
 use Rattle.pd_types.specs.declared.region.Region.{Region}
 use Rattle.pd_types.specs.declared.region.RegionBeat.{RegionBeat}
 use Rattle.pd_types.specs.declared.rule.Rule.{Rule}
 use Rattle.pd_types.specs.declared.step.Step.{Step}
+use Rattle.pd_types.specs.Keys.{is_below}
 use Rattle.store_table.specs.declared.entry.StoreEntry.{StoreEntry}
 use Rattle.rule_set.specs.Borders.{AreRising, IsBorder, strictly_inside}
 use Rattle.rule_set.specs.InForce.{rules_at}
-use Rattle.rule_set.specs.Order.{bytes_order}
 use Rattle.rule_set.proofs.BorderLemmas.{less_trans}
 use Rattle.rule_set.proofs.Words.{not_less_itself}
 use Rattle.rule_fit.specs.Ids.{AreApart}
@@ -109,19 +108,19 @@ none_found X p (y ∷ xs) h x here = by (p y) refl (λ none. none_found X p xs n
     by false is rest e (inr k) = rest e k
 
 -- the first of rising keys
-behind_first : (key : List ℕ) (keys : List (List ℕ)) → AreRising (key ∷ keys) → (other : List ℕ) → In (List ℕ) other (key ∷ keys) → (other ≡ key) ⊎ (is_lt (bytes_order key other) ≡ true)
+behind_first : (key : List ℕ) (keys : List (List ℕ)) → AreRising (key ∷ keys) → (other : List ℕ) → In (List ℕ) other (key ∷ keys) → (other ≡ key) ⊎ (is_below key other ≡ true)
 behind_first key keys rising other (inl same) = inl same
 behind_first key keys rising other (inr k) =
     let at = contained (List ℕ) other keys k in
-    inr (subst (λ (x : List ℕ). is_lt (bytes_order key x) ≡ true) at.2 (rising 0 (suc at.0) other (omega arith) (omega (arith, at.1))))
+    inr (subst (λ (x : List ℕ). is_below key x ≡ true) at.2 (rising 0 (suc at.0) other (omega arith) (omega (arith, at.1))))
 
-first_least : (key : List ℕ) (keys : List (List ℕ)) → AreRising (key ∷ keys) → (other : List ℕ) → In (List ℕ) other (key ∷ keys) → is_lt (bytes_order other key) ≡ false
+first_least : (key : List ℕ) (keys : List (List ℕ)) → AreRising (key ∷ keys) → (other : List ℕ) → In (List ℕ) other (key ∷ keys) → is_below other key ≡ false
 first_least key keys rising other here = elim (behind_first key keys rising other here) [
-  | inl same ↦ ap (λ (x : List ℕ). is_lt (bytes_order x key)) same ∙ not_less_itself key
-  | inr less ↦ by (is_lt (bytes_order other key)) refl less
+  | inl same ↦ ap (λ (x : List ℕ). is_below x key) same ∙ not_less_itself key
+  | inr less ↦ by (is_below other key) refl less
 ]
   where
-    by : (t : Bool) → is_lt (bytes_order other key) ≡ t → is_lt (bytes_order key other) ≡ true → is_lt (bytes_order other key) ≡ false
+    by : (t : Bool) → is_below other key ≡ t → is_below key other ≡ true → is_below other key ≡ false
     by true is less = absurd (true≢false (sym (less_trans key other key less is) ∙ not_less_itself key))
     by false is less = is
 
@@ -133,13 +132,13 @@ some_border set region key keys rising inside every = by (least_border set regio
     all = inside_edges set region
 
     is_first : is_least (inside_edges set region) key ≡ true
-    is_first = ap not (any_not (List ℕ) (λ other. is_lt (bytes_order other key)) (inside_edges set region) (λ other k. first_least key keys rising other (every other k)))
+    is_first = ap not (any_not (List ℕ) (λ other. is_below other key) (inside_edges set region) (λ other k. first_least key keys rising other (every other k)))
 
     by : (o : Option (List ℕ)) → least_border set region ≡ o → least_border set region ≡ Some key
     by None is = absurd (true≢false (sym is_first ∙ none_found (List ℕ) (is_least (inside_edges set region)) (inside_edges set region) is key (inside key (inl refl))))
     by (Some found) is =
         let f = found_in (List ℕ) (is_least (inside_edges set region)) (inside_edges set region) found is in
-        let low : is_lt (bytes_order key found) ≡ false = not_any (List ℕ) (λ other. is_lt (bytes_order other found)) (inside_edges set region) (not_false _ f.1) key (inside key (inl refl)) in
+        let low : is_below key found ≡ false = not_any (List ℕ) (λ other. is_below other found) (inside_edges set region) (not_false _ f.1) key (inside key (inl refl)) in
         elim (behind_first key keys rising found (every found f.0)) [
           | inl same ↦ is ∙ ap (λ (k : List ℕ). Some k) same
           | inr less ↦ absurd (true≢false (sym less ∙ low))

@@ -3,16 +3,15 @@
 -- `verdict`, which tells of no search.
 use Rattle.std.specs.Prelude.{ℕ, nat_lt, nat_eq, Bool, not, List, [], ◌∷◌, map, filter, find, fold, length, if◌then◌else◌, Option, Some, None}
 use Rattle.std.specs.List.{list_any}
-use Rattle.std.specs.Ordering.{is_lt}
 use Rattle.pd_types.specs.declared.region.Peer.{Peer}
 use Rattle.pd_types.specs.declared.region.Region.{Region}
 use Rattle.pd_types.specs.declared.region.RegionBeat.{RegionBeat}
 use Rattle.pd_types.specs.declared.rule.Rule.{Rule}
 use Rattle.pd_types.specs.declared.step.Step.{Step}
+use Rattle.pd_types.specs.Keys.{is_below}
 use Rattle.store_table.specs.declared.entry.StoreEntry.{StoreEntry}
 use Rattle.rule_set.specs.Borders.{strictly_inside}
 use Rattle.rule_set.specs.InForce.{rules_at}
-use Rattle.rule_set.specs.Order.{bytes_order}
 use Rattle.rule_fit.specs.Ways.{misfit_number}
 use Rattle.rule_fit.specs.Suits.{suits_in, counts_of}
 use Rattle.rule_checker.specs.declared.class.Class.{Class}
@@ -54,7 +53,7 @@ inside_edges set region = filter (strictly_inside region) (edges_of set)
 
 -- none of the keys is less than this one
 abbrev pub is_least : List (List ℕ) → List ℕ → Bool
-is_least keys key = not (list_any (λ other. is_lt (bytes_order other key)) keys)
+is_least keys key = not (list_any (λ other. is_below other key) keys)
 
 -- the least border inside a region; none where it crosses none
 abbrev pub least_border : List Rule → Region → Option (List ℕ)

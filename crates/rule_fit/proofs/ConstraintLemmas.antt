@@ -1,9 +1,10 @@
 -- All constraints of a rule are asked of a store.
-use Rattle.std.proofs.Common.{refl, ◌≡◌, ◌≢◌, ℕ, zero, suc, Bool, true, false, ◌&&◌, nat_eq, List, [], ◌∷◌, All, Contains, ap, sym, ◌∙◌, arith}
+use Rattle.std.proofs.Common.{refl, ◌≡◌, ◌≢◌, ℕ, zero, suc, Bool, true, false, ◌&&◌, List, [], ◌∷◌, All, Contains, ap, sym, ◌∙◌, arith}
 use Rattle.std.proofs.lemmas.List.Elements.{All-head, All-tail}
 use Rattle.pd_types.specs.declared.store.Label.{Label}
 use Rattle.pd_types.specs.declared.rule.Constraint.{Constraint}
-use Rattle.std.specs.Cmp.Lexicographic.{pointwise, bytes_decides, same_text}
+use Rattle.std.specs.Cmp.Lexicographic.{bytes_decides, same_text}
+use Rattle.std.specs.Str.{bytes_eq}
 use Rattle.store_table.specs.declared.entry.StoreEntry.{StoreEntry}
 use Rattle.rule_fit.specs.Isolation.{differ_in, score_beside}
 use Rattle.rule_fit.specs.Suits.{satisfies, satisfies_all, value_of}
@@ -27,9 +28,9 @@ pub value_first : (label : Label) (labels : List Label) → value_of label.key (
 value_first label labels = rw ((bytes_decides label.key label.key).1 refl) refl
 
 pub value_behind : (key : List ℕ) (label : Label) (labels : List Label) → label.key ≢ key → value_of key (label ∷ labels) ≡ value_of key labels
-value_behind key label labels other = by (pointwise nat_eq label.key key) refl
+value_behind key label labels other = by (bytes_eq label.key key) refl
   where
-    by : (same : Bool) → pointwise nat_eq label.key key ≡ same → value_of key (label ∷ labels) ≡ value_of key labels
+    by : (same : Bool) → bytes_eq label.key key ≡ same → value_of key (label ∷ labels) ≡ value_of key labels
     by true is = absurd (other (same_text label.key key (sym is)))
     by false is = rw is refl
 

@@ -5,32 +5,32 @@ use Rattle.std.specs.Prelude.{is_some}
 use Rattle.std.proofs.lemmas.Bool.{cases_eq, cases_lt, false≢true}
 use Rattle.std.proofs.lemmas.List.{get_or_append_left, get_or_push, length_push, length-set}
 use Rattle.std.proofs.lemmas.List.Sums.{sum_by_push, sum_by-set, count_by-le-length}
-use Rattle.rule_fit.specs.declared.search.Step.{Step}
+use Rattle.rule_fit.specs.declared.search.Reached.{Reached}
 use Rattle.rule_fit.specs.declared.search.Link.{Link}
 use Rattle.rule_fit.specs.Assignment.{held}
 use Rattle.rule_fit.specs.Trail.{IsTrail, peer_at, from_at}
 use Rattle.rule_fit.specs.Search.{IsSearch, Extends, IsClosed, marked}
 use Rattle.rule_fit.proofs.Duality.{marked_below}
 
-peer_old : (queue : List Step) (step : Step) (i : ℕ) → i < length queue → peer_at (queue ++ step ∷ []) i ≡ peer_at queue i
-peer_old queue step i h = ap (λ (s : Step). s.peer) (get_or_append_left queue (step ∷ []) (record { peer = 0; from = None }) i h)
+peer_old : (queue : List Reached) (step : Reached) (i : ℕ) → i < length queue → peer_at (queue ++ step ∷ []) i ≡ peer_at queue i
+peer_old queue step i h = ap (λ (s : Reached). s.peer) (get_or_append_left queue (step ∷ []) (record { peer = 0; from = None }) i h)
 
-from_old : (queue : List Step) (step : Step) (i : ℕ) → i < length queue → from_at (queue ++ step ∷ []) i ≡ from_at queue i
-from_old queue step i h = ap (λ (s : Step). s.from) (get_or_append_left queue (step ∷ []) (record { peer = 0; from = None }) i h)
+from_old : (queue : List Reached) (step : Reached) (i : ℕ) → i < length queue → from_at (queue ++ step ∷ []) i ≡ from_at queue i
+from_old queue step i h = ap (λ (s : Reached). s.from) (get_or_append_left queue (step ∷ []) (record { peer = 0; from = None }) i h)
 
-peer_new : (queue : List Step) (step : Step) → peer_at (queue ++ step ∷ []) (length queue) ≡ step.peer
-peer_new queue step = ap (λ (s : Step). s.peer) (get_or_push queue step (record { peer = 0; from = None }) (length queue) refl)
+peer_new : (queue : List Reached) (step : Reached) → peer_at (queue ++ step ∷ []) (length queue) ≡ step.peer
+peer_new queue step = ap (λ (s : Reached). s.peer) (get_or_push queue step (record { peer = 0; from = None }) (length queue) refl)
 
-from_new : (queue : List Step) (step : Step) → from_at (queue ++ step ∷ []) (length queue) ≡ step.from
-from_new queue step = ap (λ (s : Step). s.from) (get_or_push queue step (record { peer = 0; from = None }) (length queue) refl)
+from_new : (queue : List Reached) (step : Reached) → from_at (queue ++ step ∷ []) (length queue) ≡ step.from
+from_new queue step = ap (λ (s : Reached). s.from) (get_or_push queue step (record { peer = 0; from = None }) (length queue) refl)
 
-either : (queue : List Step) (at : ℕ) (a b : Step) → at < length queue → get_or queue at a ≡ get_or queue at b
+either : (queue : List Reached) (at : ℕ) (a b : Reached) → at < length queue → get_or queue at a ≡ get_or queue at b
 either [] at a b h = absurd (omega arith)
 either (x ∷ queue) zero a b h = refl
 either (x ∷ queue) (suc at) a b h = either queue at a b (omega arith)
 
 -- what a new step must meet
-pub record Follows (suits : ℕ → ℕ → Bool) (given : List (Option ℕ)) (queue : List Step) (step : Step) : Type 0 where
+pub record Follows (suits : ℕ → ℕ → Bool) (given : List (Option ℕ)) (queue : List Reached) (step : Reached) : Type 0 where
   pub inside : step.peer < length given
   pub start : step.from ≡ None → get_or given step.peer None ≡ None
   pub back : (link : Link) → step.from ≡ Some link → link.place < length queue
@@ -38,7 +38,7 @@ pub record Follows (suits : ℕ → ℕ → Bool) (given : List (Option ℕ)) (q
   pub suited : (link : Link) → step.from ≡ Some link → suits (peer_at queue link.place) link.rule ≡ true
   pub apart : (i : ℕ) → i < length queue → peer_at queue i ≢ step.peer
 
-pub trail_push : (suits : ℕ → ℕ → Bool) (given : List (Option ℕ)) (queue : List Step) (step : Step) → IsTrail suits (length given) given queue (length queue) → Follows suits given queue step → IsTrail suits (length given) given (queue ++ step ∷ []) (length (queue ++ step ∷ []))
+pub trail_push : (suits : ℕ → ℕ → Bool) (given : List (Option ℕ)) (queue : List Reached) (step : Reached) → IsTrail suits (length given) given queue (length queue) → Follows suits given queue step → IsTrail suits (length given) given (queue ++ step ∷ []) (length (queue ++ step ∷ []))
 trail_push suits given queue step trail follows =
     let longer = length_push queue step in
     let last : (i : ℕ) → i < length (queue ++ step ∷ []) → length queue ≤ i → i ≡ length queue = λ i h k. omega arith in
@@ -90,9 +90,9 @@ mark_many : (reached : List Bool) (p : ℕ) → p < length reached → marked re
 mark_many reached p h m = let all = rw m at (sum_by-set (λ b. cond b 1 0) reached p true false h) in omega arith
 
 -- a step to a peer that was not marked, which is marked
-pub search_reach : (suits : ℕ → ℕ → Bool) (given : List (Option ℕ)) (queue : List Step) (reached : List Bool) (p at rule : ℕ) → IsSearch suits given queue reached (length given) → at < length queue → p < length given → marked reached p ≡ false → get_or given p None ≡ Some rule → suits (peer_at queue at) rule ≡ true → IsSearch suits given (queue ++ record { peer = p; from = Some (record { place = at; rule = rule }) } ∷ []) (set reached p true) (length given)
+pub search_reach : (suits : ℕ → ℕ → Bool) (given : List (Option ℕ)) (queue : List Reached) (reached : List Bool) (p at rule : ℕ) → IsSearch suits given queue reached (length given) → at < length queue → p < length given → marked reached p ≡ false → get_or given p None ≡ Some rule → suits (peer_at queue at) rule ≡ true → IsSearch suits given (queue ++ record { peer = p; from = Some (record { place = at; rule = rule }) } ∷ []) (set reached p true) (length given)
 search_reach suits given queue reached p at rule search early below fresh some suited =
-    let step : Step = record { peer = p; from = Some (record { place = at; rule = rule }) } in
+    let step : Reached = record { peer = p; from = Some (record { place = at; rule = rule }) } in
     let size : length reached ≡ length given = search.size in
     let inside : p < length reached = omega arith in
     let many : length queue ≡ count_by (λ b. b) reached = search.many in
@@ -124,7 +124,7 @@ search_reach suits given queue reached p at rule search early below fresh some s
       ];
     }
 
-pub extends_reach : (before queue : List Step) (marks reached : List Bool) (step : Step) (p : ℕ) → Extends before marks queue reached → Extends before marks (queue ++ step ∷ []) (set reached p true)
+pub extends_reach : (before queue : List Reached) (marks reached : List Bool) (step : Reached) (p : ℕ) → Extends before marks queue reached → Extends before marks (queue ++ step ∷ []) (set reached p true)
 extends_reach before queue marks reached step p kept =
     let longer = kept.longer in
     let more : length (queue ++ step ∷ []) ≡ length queue + 1 = length_push queue step in
@@ -134,7 +134,7 @@ extends_reach before queue marks reached step p kept =
       still = λ q m. mark_still reached p q (kept.still q m);
     }
 
-pub extends_none : (queue : List Step) (reached : List Bool) → Extends queue reached queue reached
+pub extends_none : (queue : List Reached) (reached : List Bool) → Extends queue reached queue reached
 extends_none queue reached = record { longer = omega arith; steps = λ i h. refl; still = λ q m. m }
 
 -- The start: the peers one by one.
@@ -163,7 +163,7 @@ search_none suits given = record {
   met = λ p m. absurd (false≢true m);
 }
 
-pub search_skip : (suits : ℕ → ℕ → Bool) (given : List (Option ℕ)) (queue : List Step) (reached : List Bool) (n : ℕ) → IsSearch suits given queue reached n → (get_or given n None ≡ None → ⊥) → IsSearch suits given queue (reached ++ false ∷ []) (n + 1)
+pub search_skip : (suits : ℕ → ℕ → Bool) (given : List (Option ℕ)) (queue : List Reached) (reached : List Bool) (n : ℕ) → IsSearch suits given queue reached n → (get_or given n None ≡ None → ⊥) → IsSearch suits given queue (reached ++ false ∷ []) (n + 1)
 search_skip suits given queue reached n search some =
     let size = search.size in
     let longer : length (reached ++ false ∷ []) ≡ length reached + 1 = length_push reached false in
@@ -186,9 +186,9 @@ search_skip suits given queue reached n search some =
       ];
     }
 
-pub search_start : (suits : ℕ → ℕ → Bool) (given : List (Option ℕ)) (queue : List Step) (reached : List Bool) (n : ℕ) → IsSearch suits given queue reached n → n < length given → get_or given n None ≡ None → IsSearch suits given (queue ++ record { peer = n; from = None } ∷ []) (reached ++ true ∷ []) (n + 1)
+pub search_start : (suits : ℕ → ℕ → Bool) (given : List (Option ℕ)) (queue : List Reached) (reached : List Bool) (n : ℕ) → IsSearch suits given queue reached n → n < length given → get_or given n None ≡ None → IsSearch suits given (queue ++ record { peer = n; from = None } ∷ []) (reached ++ true ∷ []) (n + 1)
 search_start suits given queue reached n search below none =
-    let step : Step = record { peer = n; from = None } in
+    let step : Reached = record { peer = n; from = None } in
     let size = search.size in
     let longer : length (reached ++ true ∷ []) ≡ length reached + 1 = length_push reached true in
     let steps : length (queue ++ step ∷ []) ≡ length queue + 1 = length_push queue step in
@@ -224,7 +224,7 @@ search_start suits given queue reached n search below none =
     }
 
 -- The end: each step was looked at.
-pub search_closed : (suits : ℕ → ℕ → Bool) (counts : List ℕ) (given : List (Option ℕ)) (queue : List Step) (reached : List Bool) (at : ℕ) → IsSearch suits given queue reached (length given) → length queue ≤ at
+pub search_closed : (suits : ℕ → ℕ → Bool) (counts : List ℕ) (given : List (Option ℕ)) (queue : List Reached) (reached : List Bool) (at : ℕ) → IsSearch suits given queue reached (length given) → length queue ≤ at
     → ((i r : ℕ) → i < at → r < length counts → suits (peer_at queue i) r ≡ true → get_or counts r 0 ≤ held given r)
     → ((i q r : ℕ) → i < at → suits (peer_at queue i) r ≡ true → get_or given q None ≡ Some r → marked reached q ≡ true)
     → IsClosed suits (length given) counts given reached
@@ -237,7 +237,7 @@ search_closed suits counts given queue reached at search all full holders = reco
       holders found.0 q r (omega arith) (rw found.2 s) e;
 }
 
-pub search_short : (suits : ℕ → ℕ → Bool) (given : List (Option ℕ)) (queue : List Step) (reached : List Bool) → IsSearch suits given queue reached (length given) → length queue ≤ length given
+pub search_short : (suits : ℕ → ℕ → Bool) (given : List (Option ℕ)) (queue : List Reached) (reached : List Bool) → IsSearch suits given queue reached (length given) → length queue ≤ length given
 search_short suits given queue reached search =
     let most = count_by-le-length (λ b. b) reached in
     let size = search.size in let many = search.many in omega arith
@@ -251,5 +251,5 @@ none_is None e = refl
 none_is (Some x) e = absurd (false≢true (sym e))
 
 -- an element that was read is the step at its place
-pub peer_read : (queue : List Step) (at : ℕ) (step : Step) → at < length queue → step ≡ get_or queue at step → step.peer ≡ peer_at queue at
-peer_read queue at step h e = ap (λ (s : Step). s.peer) (e ∙ either queue at step (record { peer = 0; from = None }) h)
+pub peer_read : (queue : List Reached) (at : ℕ) (step : Reached) → at < length queue → step ≡ get_or queue at step → step.peer ≡ peer_at queue at
+peer_read queue at step h e = ap (λ (s : Reached). s.peer) (e ∙ either queue at step (record { peer = 0; from = None }) h)

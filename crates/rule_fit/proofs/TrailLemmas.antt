@@ -1,13 +1,13 @@
 -- Trails under a move of the last step's peer, and under a new step.
 use Rattle.std.proofs.Common.{ℕ, Bool, true, ◌≡◌, ◌+◌, ◌<◌, ◌≤◌, arith, sym, ◌∙◌, subst, List, length, get_or, set, Option, Some, None, get_or-set_other}
 use Rattle.std.proofs.Math.ListN.{length-set}
-use Rattle.rule_fit.specs.declared.search.Step.{Step}
+use Rattle.rule_fit.specs.declared.search.Reached.{Reached}
 use Rattle.rule_fit.specs.Assignment.{held, IsAssignment}
 use Rattle.rule_fit.specs.Trail.{IsTrail, peer_at}
 use Rattle.rule_fit.proofs.Moves.{moved}
 
 -- the last step's peer moves: the steps before it are a trail
-pub trail_set : (suits : ℕ → ℕ → Bool) (given : List (Option ℕ)) (queue : List Step) (at n r : ℕ) → IsTrail suits (length given) given queue (at + 1) → n ≤ at → IsTrail suits (length (set given (peer_at queue at) (Some r))) (set given (peer_at queue at) (Some r)) queue n
+pub trail_set : (suits : ℕ → ℕ → Bool) (given : List (Option ℕ)) (queue : List Reached) (at n r : ℕ) → IsTrail suits (length given) given queue (at + 1) → n ≤ at → IsTrail suits (length (set given (peer_at queue at) (Some r))) (set given (peer_at queue at) (Some r)) queue n
 trail_set suits given queue at n r trail less =
     let short = trail.short in
     let same : length (set given (peer_at queue at) (Some r)) ≡ length given = length-set given (peer_at queue at) (Some r) in

@@ -1,13 +1,13 @@
 -- How far a store is from others by its location labels (PD documentation, "Schedule Replicas by Topology Labels").
-use Rattle.std.specs.Prelude.{ℕ, ◌^◌, Bool, not, nat_eq, if◌then◌else◌, List, [], ◌∷◌, length, sum_by}
-use Rattle.std.specs.Cmp.Lexicographic.{pointwise}
+use Rattle.std.specs.Prelude.{ℕ, ◌^◌, Bool, not, if◌then◌else◌, List, [], ◌∷◌, length, sum_by}
+use Rattle.std.specs.Str.{bytes_eq}
 use Rattle.store_table.specs.declared.entry.StoreEntry.{StoreEntry}
 use Rattle.rule_fit.specs.Suits.{value_of, labels_of}
 
 -- the two stores have different values of the label
 abbrev pub differ_in : List StoreEntry → ℕ → ℕ → List ℕ → Bool
 differ_in stores one other label =
-    not (pointwise nat_eq (value_of label (labels_of one stores)) (value_of label (labels_of other stores)))
+    not (bytes_eq (value_of label (labels_of one stores)) (value_of label (labels_of other stores)))
 
 -- a power of 100 for the first label in which they differ, greater for an earlier one; 0 where they differ in none
 abbrev pub score_beside : List StoreEntry → ℕ → ℕ → List (List ℕ) → ℕ

@@ -10,3 +10,4 @@ pub mod Search
 pub mod Fit
 pub mod Isolation
 pub mod Ways
+pub mod Question

@@ -1,6 +1,6 @@
 -- A search from the peers without a rule: its steps, and the marks of the peers that it reached.
 use Rattle.std.specs.Prelude.{ℕ, Bool, true, false, ◌≡◌, ◌<◌, ◌≤◌, ◌+◌, List, length, get_or, Option, Some, None, count_by}
-use Rattle.rule_fit.specs.declared.search.Step.{Step}
+use Rattle.rule_fit.specs.declared.search.Reached.{Reached}
 use Rattle.rule_fit.specs.declared.search.Found.{Found}
 use Rattle.rule_fit.specs.declared.search.Found.TheVariants.{Path, Closed}
 use Rattle.rule_fit.specs.Assignment.{held}
@@ -11,7 +11,7 @@ abbrev pub marked : List Bool → ℕ → Bool
 marked reached p = get_or reached p false
 
 -- the steps are a trail of exactly the marked peers, and those without a rule are marked, of the first n peers
-pub record IsSearch (suits : ℕ → ℕ → Bool) (given : List (Option ℕ)) (queue : List Step) (reached : List Bool) (n : ℕ) : Type 0 where
+pub record IsSearch (suits : ℕ → ℕ → Bool) (given : List (Option ℕ)) (queue : List Reached) (reached : List Bool) (n : ℕ) : Type 0 where
   pub trail : IsTrail suits (length given) given queue (length queue)
   pub size : length reached ≡ n
   pub many : length queue ≡ count_by (λ b. b) reached
@@ -20,7 +20,7 @@ pub record IsSearch (suits : ℕ → ℕ → Bool) (given : List (Option ℕ)) (
   pub met : (p : ℕ) → marked reached p ≡ true → (i : ℕ) × (i < length queue) × (peer_at queue i ≡ p)
 
 -- steps and marks are only added
-pub record Extends (queue : List Step) (reached : List Bool) (after : List Step) (marks : List Bool) : Type 0 where
+pub record Extends (queue : List Reached) (reached : List Bool) (after : List Reached) (marks : List Bool) : Type 0 where
   pub longer : length queue ≤ length after
   pub steps : (i : ℕ) → i < length queue → peer_at after i ≡ peer_at queue i
   pub still : (p : ℕ) → marked reached p ≡ true → marked marks p ≡ true
@@ -33,7 +33,7 @@ pub record IsClosed (suits : ℕ → ℕ → Bool) (peers : ℕ) (counts : List 
   pub holders : (p q r : ℕ) → marked reached p ≡ true → suits p r ≡ true → get_or given q None ≡ Some r → marked reached q ≡ true
 
 -- the trail ends at a peer that suits a rule with room
-pub record IsPath (suits : ℕ → ℕ → Bool) (counts : List ℕ) (given : List (Option ℕ)) (queue : List Step) (last rule : ℕ) : Type 0 where
+pub record IsPath (suits : ℕ → ℕ → Bool) (counts : List ℕ) (given : List (Option ℕ)) (queue : List Reached) (last rule : ℕ) : Type 0 where
   pub trail : IsTrail suits (length given) given queue (last + 1)
   pub known : rule < length counts
   pub suited : suits (peer_at queue last) rule ≡ true

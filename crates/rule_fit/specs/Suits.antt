@@ -1,7 +1,6 @@
 -- Which peer suits which rule (PD documentation, "Placement Rules": `role`, `label_constraints`).
 use Rattle.std.specs.Prelude.{ℕ, Bool, false, ◌&&◌, ◌||◌, not, nat_eq, if◌then◌else◌, List, [], ◌∷◌, Option, Some, None, map, slice_get}
 use Rattle.std.specs.List.{list_any, list_all}
-use Rattle.std.specs.Cmp.Lexicographic.{pointwise}
 use Rattle.pd_types.specs.declared.store.Label.{Label}
 use Rattle.pd_types.specs.declared.rule.Op.{Op}
 use Rattle.pd_types.specs.declared.rule.Op.TheVariants.{In, NotIn, Exists, NotExists}
@@ -14,17 +13,18 @@ use Rattle.pd_types.specs.declared.region.Peer.{Peer}
 use Rattle.pd_types.specs.declared.region.RegionBeat.{RegionBeat}
 use Rattle.pd_types.specs.Bytes.{is_empty}
 use Rattle.pd_types.specs.Roles.{is_voter, is_learner}
+use Rattle.std.specs.Str.{bytes_eq}
 use Rattle.store_table.specs.declared.entry.StoreEntry.{StoreEntry}
 use Rattle.store_table.specs.Entries.{entry_at, is_usable}
 
 -- the value of the first label with this key; an absent label has the empty value
 abbrev pub value_of : List ℕ → List Label → List ℕ
 value_of key [] = []
-value_of key (label ∷ labels) = if pointwise nat_eq label.key key then label.value else value_of key labels
+value_of key (label ∷ labels) = if bytes_eq label.key key then label.value else value_of key labels
 
 -- the value is one of these
 abbrev pub is_among : List ℕ → List (List ℕ) → Bool
-is_among value values = list_any (λ one. pointwise nat_eq one value) values
+is_among value values = list_any (λ one. bytes_eq one value) values
 
 -- in: not empty and listed; notIn: empty or not listed; exists: not empty; notExists: empty
 abbrev pub passes : Op → List ℕ → List (List ℕ) → Bool

@@ -1,7 +1,8 @@
 ghost use Rattle.std.specs.Prelude.{◌≡◌, ◌*◌, ◌≤◌, ◌↔◌, ◌^◌, length, IsTrue, sum, cond, false};
-ghost use Rattle.rule_fit.specs.Certificate.{Certifies, Differ, Lacks};
+ghost use Rattle.rule_fit.specs.Certificate.{Differ, Lacks};
 ghost use Rattle.rule_fit.specs.Chosen.{wanted, capacity, size_of};
 ghost use Rattle.rule_fit.specs.Ids.{chosen_by};
+ghost use Rattle.rule_fit.specs.Question.{CertifiesIn, question};
 ghost use Rattle.rule_fit.specs.Suits.{suits_in, counts_of};
 
 use crate::Certificate;
@@ -132,7 +133,7 @@ pub fn check_certificate(
     now: u64,
 ) -> bool
     requires { length rules.now ≤ 64 }
-    ensures value { IsTrue result ↔ Certifies (suits_in beat.now rules.now stores.now now) beat.now.region.peers (counts_of rules.now) certificate.now }
+    ensures value { IsTrue result ↔ CertifiesIn (question beat.now rules.now stores.now now) certificate.now }
 {
     match certificate {
         Certificate::Totals { counts, peers } => {

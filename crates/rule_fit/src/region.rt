@@ -1,9 +1,7 @@
-ghost use Rattle.std.specs.Prelude.{◌≡◌, ◌≤◌, ◌↔◌, length, IfOk, IsTrue};
-ghost use Rattle.rule_fit.specs.Assignment.{IsGreatest, Fits};
-ghost use Rattle.rule_fit.specs.Certificate.{IsMisfitNumber};
-ghost use Rattle.rule_fit.specs.Fit.{says_fits, given_of, HasItsKind, IsCertified};
+ghost use Rattle.std.specs.Prelude.{◌≤◌, ◌↔◌, length, IfOk, IsTrue};
+ghost use Rattle.rule_fit.specs.Fit.{given_of, says_fits};
 ghost use Rattle.rule_fit.specs.Ids.{AreApart};
-ghost use Rattle.rule_fit.specs.Suits.{suits_in, counts_of};
+ghost use Rattle.rule_fit.specs.Question.{FitsIn, HasItsKindIn, IsCertifiedIn, IsGreatestIn, IsMisfitIn, question};
 
 use crate::assign::{Matching, placed};
 use crate::certificate::total;
@@ -24,10 +22,10 @@ fn fit_rules(
 ) -> Result<Fit, NoMemory>
     requires rules { length rules.now ≤ 64 }
     requires apart { AreApart beat.now.region.peers }
-    ensures fits { IfOk result (λ fit. IsTrue (says_fits fit) ↔ Fits (suits_in beat.now rules.now stores.now now) (length beat.now.region.peers) (counts_of rules.now)) }
-    ensures greatest { IfOk result (λ fit. IsGreatest (suits_in beat.now rules.now stores.now now) (length beat.now.region.peers) (counts_of rules.now) (given_of fit)) }
-    ensures certificate { IfOk result (IsCertified (suits_in beat.now rules.now stores.now now) beat.now.region.peers (counts_of rules.now)) }
-    ensures kind { IfOk result (HasItsKind beat.now.region.peers (counts_of rules.now)) }
+    ensures fits { IfOk result (λ fit. IsTrue (says_fits fit) ↔ FitsIn (question beat.now rules.now stores.now now)) }
+    ensures greatest { IfOk result (λ fit. IsGreatestIn (question beat.now rules.now stores.now now) (given_of fit)) }
+    ensures certificate { IfOk result (IsCertifiedIn (question beat.now rules.now stores.now now)) }
+    ensures kind { IfOk result (HasItsKindIn (question beat.now rules.now stores.now now)) }
 {
     let Matching { given, reached } = matching(alloc, beat, rules, stores, now)?;
     let peers = beat.region.peers.as_slice();
@@ -68,10 +66,10 @@ pub fn fit(
     requires peers { length beat.now.region.peers ≤ 15 }
     requires rules { length rules.now ≤ 64 }
     requires apart { AreApart beat.now.region.peers }
-    ensures fits { IfOk result (λ fit. IsTrue (says_fits fit) ↔ Fits (suits_in beat.now rules.now stores.now now) (length beat.now.region.peers) (counts_of rules.now)) }
-    ensures greatest { IfOk result (λ fit. IsGreatest (suits_in beat.now rules.now stores.now now) (length beat.now.region.peers) (counts_of rules.now) (given_of fit)) }
-    ensures certificate { IfOk result (IsCertified (suits_in beat.now rules.now stores.now now) beat.now.region.peers (counts_of rules.now)) }
-    ensures kind { IfOk result (HasItsKind beat.now.region.peers (counts_of rules.now)) }
+    ensures fits { IfOk result (λ fit. IsTrue (says_fits fit) ↔ FitsIn (question beat.now rules.now stores.now now)) }
+    ensures greatest { IfOk result (λ fit. IsGreatestIn (question beat.now rules.now stores.now now) (given_of fit)) }
+    ensures certificate { IfOk result (IsCertifiedIn (question beat.now rules.now stores.now now)) }
+    ensures kind { IfOk result (HasItsKindIn (question beat.now rules.now stores.now now)) }
 {
     fit_rules(alloc, beat, rules.as_slice(), stores, now)
 }
@@ -86,7 +84,7 @@ fn misfit_of(
 ) -> Result<u64, NoMemory>
     requires peers { length beat.now.region.peers ≤ 15 }
     requires rules { length rules.now ≤ 64 }
-    ensures { IfOk result (IsMisfitNumber (suits_in beat.now rules.now stores.now now) (length beat.now.region.peers) (counts_of rules.now)) }
+    ensures { IfOk result (IsMisfitIn (question beat.now rules.now stores.now now)) }
 {
     let Matching { given, .. } = matching(alloc, beat, rules, stores, now)?;
     let placed = placed(&given) as u64;
@@ -106,7 +104,7 @@ pub fn misfit_number(
 ) -> Result<u64, NoMemory>
     requires peers { length beat.now.region.peers ≤ 15 }
     requires rules { length rules.now ≤ 64 }
-    ensures value { IfOk result (IsMisfitNumber (suits_in beat.now rules.now stores.now now) (length beat.now.region.peers) (counts_of rules.now)) }
+    ensures value { IfOk result (IsMisfitIn (question beat.now rules.now stores.now now)) }
 {
     misfit_of(alloc, beat, rules.as_slice(), stores, now)
 }

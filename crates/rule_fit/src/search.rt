@@ -9,7 +9,7 @@ use std::alloc::Global;
 
 /// A peer that a search reached, and how it came there: from None if it has no rule.
 #[derive(Clone, Copy, Debug)]
-pub struct Step {
+pub struct Reached {
     pub peer: usize,
     pub from: Option<Link>,
 }
@@ -59,7 +59,7 @@ fn open_rule(table: &[Vec<bool>], counts: &[u32], given: &[Option<u32>], peer: u
 pub fn augment(
     table: &[Vec<bool>],
     counts: &[u32],
-    queue: &[Step],
+    queue: &[Reached],
     given: &mut [Option<u32>],
     last: usize,
     rule: u32,
@@ -92,7 +92,7 @@ pub fn augment(
 pub enum Found {
     /// The peer of the step at `last` suits the rule, which has room.
     Path {
-        queue: Vec<Step>,
+        queue: Vec<Reached>,
         last: usize,
         rule: u32,
     },
@@ -103,7 +103,7 @@ pub enum Found {
 }
 
 /// The steps of the peers without a rule, and the mark of each peer.
-fn start(alloc: Global, given: &[Option<u32>]) -> Result<(Vec<Step>, Vec<bool>), NoMemory>
+fn start(alloc: Global, given: &[Option<u32>]) -> Result<(Vec<Reached>, Vec<bool>), NoMemory>
     ensures { IfOk result (λ both. (test : ℕ → ℕ → Bool) → IsSearch test given.now both.0.items both.1.items (length given.now)) }
 {
     let mut queue = Vec::new(alloc);
@@ -113,7 +113,7 @@ fn start(alloc: Global, given: &[Option<u32>]) -> Result<(Vec<Step>, Vec<bool>),
             reached.push(false)?;
             continue;
         }
-        queue.push(Step { peer, from: None })?;
+        queue.push(Reached { peer, from: None })?;
         reached.push(true)?;
     }
     Ok((queue, reached))
@@ -123,7 +123,7 @@ fn start(alloc: Global, given: &[Option<u32>]) -> Result<(Vec<Step>, Vec<bool>),
 fn reach(
     table: &[Vec<bool>],
     given: &[Option<u32>],
-    queue: &mut Vec<Step>,
+    queue: &mut Vec<Reached>,
     reached: &mut [bool],
     at: usize,
 ) -> Result<(), NoMemory>
@@ -142,7 +142,7 @@ fn reach(
         if reached[other] || !suits(table, peer, rule) {
             continue;
         }
-        queue.push(Step {
+        queue.push(Reached {
             peer: other,
             from: Some(Link { place: at, rule }),
         })?;

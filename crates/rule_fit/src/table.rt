@@ -1,5 +1,5 @@
 ghost use Rattle.std.specs.Prelude.{◌≡◌, ◌≤◌, length, map, IfOk};
-ghost use Rattle.rule_fit.specs.Assignment.{IsAssignment, IsGreatest};
+ghost use Rattle.rule_fit.specs.Question.{IsAssignmentIn, IsGreatestIn, question};
 ghost use Rattle.rule_fit.specs.Search.{IsClosed};
 ghost use Rattle.rule_fit.specs.Suits.{peer_suits, suits_in, counts_of};
 
@@ -64,8 +64,8 @@ pub fn matching(
     now: u64,
 ) -> Result<Matching, NoMemory>
     requires { length rules.now ≤ 64 }
-    ensures assigned { IfOk result (λ g. IsAssignment (suits_in beat.now rules.now stores.now now) (length beat.now.region.peers) (counts_of rules.now) g.given.items) }
-    ensures greatest { IfOk result (λ g. IsGreatest (suits_in beat.now rules.now stores.now now) (length beat.now.region.peers) (counts_of rules.now) g.given.items) }
+    ensures assigned { IfOk result (λ g. IsAssignmentIn (question beat.now rules.now stores.now now) g.given.items) }
+    ensures greatest { IfOk result (λ g. IsGreatestIn (question beat.now rules.now stores.now now) g.given.items) }
     ensures closed { IfOk result (λ g. IsClosed (suits_in beat.now rules.now stores.now now) (length beat.now.region.peers) (counts_of rules.now) g.given.items g.reached.items) }
 {
     let peers = beat.region.peers.as_slice();

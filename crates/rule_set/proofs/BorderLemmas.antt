@@ -12,14 +12,10 @@ use Rattle.std.specs.List.{insert, Contains}
 use Rattle.std.specs.List.Sorted.{IsPartitionedBy}
 use Rattle.pd_types.specs.declared.rule.Rule.{Rule}
 use Rattle.pd_types.specs.declared.region.Region.{Region}
-use Rattle.rule_set.specs.Order.{bytes_order}
+use Rattle.pd_types.proofs.KeyLemmas.{less_is}
+use Rattle.pd_types.specs.Keys.{bytes_order, is_below}
 use Rattle.rule_set.specs.Borders.{AreRising, IsBorder, Takes, is_tied, strictly_inside}
 use Rattle.rule_set.proofs.Sorted.{parted, before_not_after, gt_is_lt, pairs_insert}
-
-less_is : (o : Ordering) → is_lt o ≡ true → o ≡ Less
-less_is Less h = refl
-less_is Equal h = absurd (true≢false (sym h))
-less_is Greater h = absurd (true≢false (sym h))
 
 greater : (o : Ordering) → is_lt o ≡ false → is_eq o ≡ false → is_gt o ≡ true
 greater Less h k = absurd (true≢false h)
@@ -30,31 +26,31 @@ number_ties : (x y : ℕ) → nat_eq x y ≡ eq_by_cmp nat_cmp x y
 number_ties x y = grind (arith, nat_tests)
 
 -- keys that are neither less nor the same are greater
-pub past_key : (one key : List ℕ) → is_lt (bytes_order one key) ≡ false → is_tied one key ≡ false → is_lt (bytes_order key one) ≡ true
+pub past_key : (one key : List ℕ) → is_below one key ≡ false → is_tied one key ≡ false → is_below key one ≡ true
 past_key one key not_less not_tied =
     let tie = lists_ties {E = nat_eq} nat_cmp number_ties one key in
     sym (gt_is_lt bytes_order nat_list_cmp_total one key) ∙ greater (bytes_order one key) not_less (sym tie ∙ not_tied)
 
-pub less_trans : (a b c : List ℕ) → is_lt (bytes_order a b) ≡ true → is_lt (bytes_order b c) ≡ true → is_lt (bytes_order a c) ≡ true
+pub less_trans : (a b c : List ℕ) → is_below a b ≡ true → is_below b c ≡ true → is_below a c ≡ true
 less_trans a b c first second =
     ap is_lt (nat_list_cmp_total.trans a b c (less_is (bytes_order a b) first) (less_is (bytes_order b c) second))
 
-pub keys_parted : (key : List ℕ) (keys : List (List ℕ)) → AreRising keys → IsPartitionedBy (λ one. is_lt (bytes_order one key)) keys
+pub keys_parted : (key : List ℕ) (keys : List (List ℕ)) → AreRising keys → IsPartitionedBy (λ one. is_below one key) keys
 keys_parted key keys rising =
     parted bytes_order nat_list_cmp_total key keys (λ i j d less low. before_not_after bytes_order nat_list_cmp_total (get_or keys i d) (get_or keys j d) (rising i j d less low))
 
-pub rising_insert : (key : List ℕ) (xs ys : List (List ℕ)) (i : ℕ) → xs ≡ ys → i ≤ length xs → AreRising ys → ((k : ℕ) (d : List ℕ) → k < i → is_lt (bytes_order (get_or xs k d) key) ≡ true) → ((k : ℕ) (d : List ℕ) → i ≤ k → k < length xs → is_lt (bytes_order (get_or xs k d) key) ≡ false) → ((d : List ℕ) → i < length xs → is_tied (get_or xs i d) key ≡ false) → AreRising (insert ys i key)
+pub rising_insert : (key : List ℕ) (xs ys : List (List ℕ)) (i : ℕ) → xs ≡ ys → i ≤ length xs → AreRising ys → ((k : ℕ) (d : List ℕ) → k < i → is_below (get_or xs k d) key ≡ true) → ((k : ℕ) (d : List ℕ) → i ≤ k → k < length xs → is_below (get_or xs k d) key ≡ false) → ((d : List ℕ) → i < length xs → is_tied (get_or xs i d) key ≡ false) → AreRising (insert ys i key)
 rising_insert key xs ys i same within rising before after other =
     let rising_xs : AreRising xs = subst AreRising (sym same) rising in
-    let R : List ℕ → List ℕ → Type 0 = λ one later. is_lt (bytes_order one later) ≡ true in
+    let R : List ℕ → List ℕ → Type 0 = λ one later. is_below one later ≡ true in
     subst (λ zs. AreRising (insert zs i key)) same
     (pairs_insert R xs i key within rising_xs before (λ k d high low. behind rising_xs k d high low (cases_eq i k)))
   where
-    first : (d : List ℕ) → i < length xs → is_lt (bytes_order key (get_or xs i d)) ≡ true
+    first : (d : List ℕ) → i < length xs → is_below key (get_or xs i d) ≡ true
     first d low = past_key (get_or xs i d) key (after i d (omega arith) low) (other d low)
 
-    behind : AreRising xs → (k : ℕ) (d : List ℕ) → i ≤ k → k < length xs → (i ≡ k) ⊎ (i ≡ k → ⊥) → is_lt (bytes_order key (get_or xs k d)) ≡ true
-    behind rising_xs k d high low (inl here) = subst (λ m. is_lt (bytes_order key (get_or xs m d)) ≡ true) here (first d (omega arith))
+    behind : AreRising xs → (k : ℕ) (d : List ℕ) → i ≤ k → k < length xs → (i ≡ k) ⊎ (i ≡ k → ⊥) → is_below key (get_or xs k d) ≡ true
+    behind rising_xs k d high low (inl here) = subst (λ m. is_below key (get_or xs m d) ≡ true) here (first d (omega arith))
     behind rising_xs k d high low (inr past) =
         less_trans key (get_or xs i d) (get_or xs k d) (first d (omega arith)) (rising_xs i k d (omega arith) low)
 

@@ -7,8 +7,9 @@ use Rattle.std.proofs.lemmas.Result.{IfOk-weaker}
 use Rattle.std.specs.Result.{IfOk}
 use Rattle.std.specs.List.{Contains, All, AllPairs, list_any}
 use Rattle.pd_types.specs.declared.rule.Rule.{Rule}
+use Rattle.pd_types.proofs.Members.{contains_cases, contains_here, contains_none, contains_tail}
+use Rattle.pd_types.proofs.Pairs.{pairs_head, pairs_tail}
 use Rattle.rule_set.specs.InForce.{rules_at, holds, hides, IsInForce}
-use Rattle.rule_set.proofs.Members.{contains_none, contains_here, contains_tail, contains_cases, pairs_head, pairs_tail}
 
 abbrev in_force : List ℕ → Rule → List Rule → Bool
 in_force key rule later = holds rule key && not (list_any (hides key rule) later)

@@ -1,7 +1,6 @@
 pub mod Sorted
 pub mod RuleLemmas
 pub mod BorderLemmas
-pub mod Members
 pub mod NameLemmas
 pub mod ForceLemmas
 pub mod SetLemmas

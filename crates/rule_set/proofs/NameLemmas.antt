@@ -1,33 +1,31 @@
 -- Rules by their names, and the order of rules whose names differ.
-use Rattle.std.proofs.Common.{refl, ◌≡◌, ℕ, suc, ◌+◌, ◌<◌, ◌≤◌, Bool, true, false, not, cond, ◌&&◌, ◌||◌, nat_eq, List, [], ◌∷◌, length, get_or, take, drop, length-drop, ◌-◌, ap, sym, ◌∙◌, arith, subst, ◌⊎◌, inl, inr}
+use Rattle.std.proofs.Common.{refl, ◌≡◌, ℕ, suc, ◌+◌, ◌<◌, ◌≤◌, Bool, true, false, not, cond, ◌||◌, List, [], ◌∷◌, length, get_or, take, drop, length-drop, ◌-◌, ap, sym, ◌∙◌, arith, subst, ◌⊎◌, inl, inr}
 use Rattle.std.proofs.lemmas.Bool.{true≢false, cases_Bool}
 use Rattle.std.proofs.lemmas.List.Elements.{All-cons, All-head, All-tail, All-nil, filter_passes}
 use Rattle.std.proofs.lemmas.List.{take_rest, get_or-drop, get_or_default}
 use Rattle.std.proofs.lemmas.Map.Lookups.{exact_bytes}
-use Rattle.std.specs.Cmp.Lexicographic.{pointwise, same_text, other_text}
+use Rattle.std.specs.Cmp.Lexicographic.{same_text, other_text}
 use Rattle.std.specs.Ordering.{is_lt, is_gt, ordering_then, nat_cmp}
 use Rattle.std.specs.declared.cmp.Ordering.{Ordering}
 use Rattle.std.specs.declared.cmp.Ordering.TheVariants.{Less, Equal, Greater}
 use Rattle.std.specs.List.{All}
 use Rattle.pd_types.specs.declared.rule.Rule.{Rule}
-use Rattle.rule_set.specs.Order.{bytes_order, order_of, comes_before, AreApart, AreNamedApart, is_named, without}
+use Rattle.pd_types.proofs.Pairs.{pairs_head, pairs_tail}
+use Rattle.pd_types.proofs.Bools.{and_true}
+use Rattle.pd_types.specs.Keys.{bytes_order}
+use Rattle.std.specs.Str.{bytes_eq}
+use Rattle.rule_set.specs.Order.{order_of, comes_before, AreApart, AreNamedApart, is_named, without}
 use Rattle.rule_set.specs.Changes.{knows}
-use Rattle.rule_set.proofs.Members.{pairs_head, pairs_tail}
-
-both : (a b : Bool) → (a && b) ≡ true → (a ≡ true) × (b ≡ true)
-both true true h = (refl, refl)
-both true false h = absurd (true≢false (sym h))
-both false b h = absurd (true≢false (sym h))
 
 pub named_true : (group id : List ℕ) (rule : Rule) → is_named group id rule ≡ true → (rule.group ≡ group) × (rule.id ≡ id)
 named_true group id rule told =
-    let parts = both (pointwise nat_eq rule.group group) (pointwise nat_eq rule.id id) told in
+    let parts = and_true (bytes_eq rule.group group) (bytes_eq rule.id id) told in
     (same_text rule.group group (sym parts.0), same_text rule.id id (sym parts.1))
 
 pub named_false : (group id : List ℕ) (rule : Rule) → is_named group id rule ≡ false → rule.group ≡ group → rule.id ≡ id → ⊥
-named_false group id rule told one other = by (pointwise nat_eq rule.group group) refl (pointwise nat_eq rule.id id) refl
+named_false group id rule told one other = by (bytes_eq rule.group group) refl (bytes_eq rule.id id) refl
   where
-    by : (a : Bool) → pointwise nat_eq rule.group group ≡ a → (b : Bool) → pointwise nat_eq rule.id id ≡ b → ⊥
+    by : (a : Bool) → bytes_eq rule.group group ≡ a → (b : Bool) → bytes_eq rule.id id ≡ b → ⊥
     by false group_is b id_is = other_text rule.group group (sym group_is) one
     by true group_is false id_is = other_text rule.id id (sym id_is) other
     by true group_is true id_is = let told_so : is_named group id rule ≡ true = rw (group_is, id_is) refl in true≢false (sym told_so ∙ told)

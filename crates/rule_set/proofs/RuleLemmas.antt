@@ -9,11 +9,12 @@ use Rattle.std.specs.Ordering.{is_gt}
 use Rattle.std.specs.List.{All, AllPairs, filter, insert, list_any}
 use Rattle.std.specs.List.Sorted.{IsPartitionedBy}
 use Rattle.pd_types.specs.declared.rule.Rule.{Rule}
+use Rattle.pd_types.proofs.Filters.{filter_back, filter_front}
 use Rattle.rule_set.specs.Order.{order_of, comes_before, AreApart, AreInOrder, AreNamedApart, placed, without, is_named}
 use Rattle.rule_set.specs.Changes.{knows, with_rule, set_of}
 use Rattle.rule_set.specs.InForce.{rules_at, holds, hides}
 use Rattle.rule_set.proofs.NameLemmas.{before_apart, apart_flipped}
-use Rattle.rule_set.proofs.Sorted.{filter_front, filter_back, pairs_insert, before_not_after, not_before_after, parted}
+use Rattle.rule_set.proofs.Sorted.{pairs_insert, before_not_after, not_before_after, parted}
 
 pub order_total : IsTotalOrder order_of
 order_total = then_total (on_total (λ (r : Rule). r.group) nat_list_cmp_total) (then_total (on_total (λ (r : Rule). r.index) nat_cmp_total) (on_total (λ (r : Rule). r.id) nat_list_cmp_total))

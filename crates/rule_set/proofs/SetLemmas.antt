@@ -5,10 +5,11 @@ use Rattle.std.proofs.lemmas.List.Elements.{All-cons, All-filter, All-append, Co
 use Rattle.std.proofs.lemmas.List.Kept.{AllPairs-filter}
 use Rattle.std.specs.List.{Contains, filter, All}
 use Rattle.pd_types.specs.declared.rule.Rule.{Rule}
+use Rattle.pd_types.proofs.Members.{all_contains, contains_all, contains_cases, contains_head, contains_here, contains_none, contains_tail, kept_from, kept_old}
+use Rattle.pd_types.proofs.Pairs.{pairs_head, pairs_tail}
 use Rattle.rule_set.specs.Order.{comes_before, AreInOrder, AreApart, AreNamedApart, is_named, without, placed}
 use Rattle.rule_set.specs.RuleSets.{HasFewLocations, IsRuleSet}
 use Rattle.rule_set.specs.Changes.{with_rule, set_of}
-use Rattle.rule_set.proofs.Members.{contains_none, contains_head, contains_here, contains_tail, contains_cases, contains_all, all_contains, kept_from, kept_old, pairs_head, pairs_tail}
 use Rattle.rule_set.proofs.NameLemmas.{named_true, named_self, one_goes}
 use Rattle.rule_set.proofs.RuleLemmas.{length-filter-le, with_rule_some}
 

@@ -1,35 +1,15 @@
 -- Lists in an order, and what an insertion at the place of an element makes of them.
-use Rattle.std.proofs.Common.{refl, ◌≡◌, ℕ, zero, suc, ◌+◌, ◌-◌, ◌<◌, ◌≤◌, Bool, true, false, List, [], ◌∷◌, length, get_or, take, drop, ap, sym, ◌∙◌, arith, ◌⊎◌, inl, inr, subst}
-use Rattle.std.proofs.lemmas.Grind.{common_steps}
+use Rattle.std.proofs.Common.{refl, ◌≡◌, ℕ, ◌+◌, ◌-◌, ◌<◌, ◌≤◌, true, false, List, length, get_or, ap, sym, ◌∙◌, arith, ◌⊎◌, inl, inr, subst}
 use Rattle.std.proofs.lemmas.Bool.{cases_eq, cases_order, cases_Bool, true≢false}
 use Rattle.std.proofs.lemmas.List.Edits.{get_or-insert_below, get_or-insert_at, get_or-insert_above, length-insert}
 use Rattle.std.proofs.lemmas.Cmp.{upto}
 use Rattle.std.specs.Cmp.{IsTotalOrder}
-use Rattle.std.specs.Ordering.{is_lt, is_gt, ordering_reverse}
+use Rattle.std.specs.Ordering.{is_lt, is_gt}
 use Rattle.std.specs.declared.cmp.Ordering.{Ordering}
 use Rattle.std.specs.declared.cmp.Ordering.TheVariants.{Less, Equal, Greater}
-use Rattle.std.specs.List.{filter, AllPairs, insert}
+use Rattle.std.specs.List.{AllPairs, insert}
 use Rattle.std.specs.List.Sorted.{IsPartitionedBy}
-
--- a test that all before the place pass, and none from there on
-pub filter_front : {X : Type 0} (p : X → Bool) (xs : List X) (i : ℕ) → ((k : ℕ) (d : X) → k < i → k < length xs → p (get_or xs k d) ≡ true) → ((k : ℕ) (d : X) → i ≤ k → k < length xs → p (get_or xs k d) ≡ false) → filter p xs ≡ take i xs
-filter_front p [] i passes fails = grind (arith, common_steps)
-filter_front p (x ∷ xs) zero passes fails =
-    let rest = filter_front p xs zero (λ k d low in_list. absurd (omega arith)) (λ k d low in_list. fails (suc k) d (omega arith) (omega arith)) in
-    rw (fails 0 x (omega arith) (omega arith)) rest
-filter_front p (x ∷ xs) (suc i) passes fails =
-    let rest = filter_front p xs i (λ k d low in_list. passes (suc k) d (omega arith) (omega arith)) (λ k d low in_list. fails (suc k) d (omega arith) (omega arith)) in
-    rw (passes 0 x (omega arith) (omega arith)) (ap (λ ys. x ∷ ys) rest)
-
--- a test that none before the place passes, and all from there on
-pub filter_back : {X : Type 0} (p : X → Bool) (xs : List X) (i : ℕ) → ((k : ℕ) (d : X) → k < i → k < length xs → p (get_or xs k d) ≡ false) → ((k : ℕ) (d : X) → i ≤ k → k < length xs → p (get_or xs k d) ≡ true) → filter p xs ≡ drop i xs
-filter_back p [] i fails passes = grind (arith, common_steps)
-filter_back p (x ∷ xs) zero fails passes =
-    let rest = filter_back p xs zero (λ k d low in_list. absurd (omega arith)) (λ k d low in_list. passes (suc k) d (omega arith) (omega arith)) in
-    rw (passes 0 x (omega arith) (omega arith)) (ap (λ ys. x ∷ ys) rest)
-filter_back p (x ∷ xs) (suc i) fails passes =
-    let rest = filter_back p xs i (λ k d low in_list. fails (suc k) d (omega arith) (omega arith)) (λ k d low in_list. passes (suc k) d (omega arith) (omega arith)) in
-    rw (fails 0 x (omega arith) (omega arith)) rest
+use Rattle.pd_types.proofs.KeyLemmas.{reverse_gt}
 
 module _ {X : Type 0} (R : X → X → Type 0) where
   related : (a b a' b' : X) → a ≡ a' → b ≡ b' → R a' b' → R a b
@@ -66,9 +46,6 @@ module _ {X : Type 0} (R : X → X → Type 0) where
 
 is_lt_not_gt : (o : Ordering) → is_lt o ≡ true → is_gt o ≡ false
 is_lt_not_gt o less = elim o as (λ o. is_lt o ≡ true → is_gt o ≡ false) [ Less ↦ λ h. refl | Equal ↦ λ h. refl | Greater ↦ λ h. cc ] less
-
-reverse_gt : (o : Ordering) → is_gt (ordering_reverse o) ≡ is_lt o
-reverse_gt o = elim o as (λ o. is_gt (ordering_reverse o) ≡ is_lt o) [ Less ↦ refl | Equal ↦ refl | Greater ↦ refl ]
 
 module _ {X : Type 0} (cmp : X → X → Ordering) (total : IsTotalOrder cmp) where
   -- what comes before isn't after

@@ -1,15 +1,9 @@
 -- Which placement rules are in force at a key (PD documentation, "Placement Rules": `start_key`, `end_key`, `override`).
-use Rattle.std.specs.Prelude.{◌≡◌, ◌<◌, slice_get, Some, ℕ, Bool, true, false, ◌&&◌, ◌||◌, not, nat_eq, if◌then◌else◌, List, [], ◌∷◌}
+use Rattle.std.specs.Prelude.{◌≡◌, ◌<◌, slice_get, Some, ℕ, Bool, true, false, ◌&&◌, not, if◌then◌else◌, List, [], ◌∷◌}
 use Rattle.std.specs.List.{list_any}
-use Rattle.std.specs.Ordering.{is_lt}
-use Rattle.std.specs.Cmp.Lexicographic.{pointwise}
 use Rattle.pd_types.specs.declared.rule.Rule.{Rule}
-use Rattle.pd_types.specs.Bytes.{is_empty}
-use Rattle.rule_set.specs.Order.{bytes_order}
-
--- the key is in the range from a start up to an end; an empty end has no upper bound
-abbrev pub in_range : List ℕ → List ℕ → List ℕ → Bool
-in_range start end key = not (is_lt (bytes_order key start)) && (is_empty end || is_lt (bytes_order key end))
+use Rattle.pd_types.specs.Keys.{in_range}
+use Rattle.std.specs.Str.{bytes_eq}
 
 -- the rule's range holds the key
 abbrev pub holds : Rule → List ℕ → Bool
@@ -17,7 +11,7 @@ holds rule key = in_range rule.start rule.end key
 
 -- a later rule hides a rule at a key: it is of its group, its range holds the key, and it overrides
 abbrev pub hides : List ℕ → Rule → Rule → Bool
-hides key rule later = later.overrides && pointwise nat_eq later.group rule.group && holds later key
+hides key rule later = later.overrides && bytes_eq later.group rule.group && holds later key
 
 -- the rule stands at a place, its range holds the key, and no rule at a later place hides it there
 pub record IsInForce (rules : List Rule) (key : List ℕ) (rule : Rule) : Type 0 where

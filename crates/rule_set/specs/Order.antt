@@ -1,13 +1,10 @@
 -- The order of placement rules (PD documentation, "Placement Rules": by group, index and id).
-use Rattle.std.specs.Prelude.{◌≡◌, ℕ, Bool, true, ◌&&◌, not, nat_eq, List, ◌∷◌, ◌++◌, filter, AllPairs}
+use Rattle.std.specs.Prelude.{◌≡◌, ℕ, Bool, true, ◌&&◌, not, List, ◌∷◌, ◌++◌, filter, AllPairs}
 use Rattle.std.specs.Ordering.{nat_cmp, ordering_then, is_lt}
 use Rattle.std.specs.declared.cmp.Ordering.{Ordering}
-use Rattle.std.specs.Cmp.Lexicographic.{slice_cmp, pointwise}
 use Rattle.pd_types.specs.declared.rule.Rule.{Rule}
-
--- texts and keys are ordered byte by byte
-abbrev pub bytes_order : List ℕ → List ℕ → Ordering
-bytes_order one other = slice_cmp nat_cmp one other
+use Rattle.pd_types.specs.Keys.{bytes_order}
+use Rattle.std.specs.Str.{bytes_eq}
 
 -- by group, then by index, then by id
 abbrev pub order_of : Rule → Rule → Ordering
@@ -32,7 +29,7 @@ AreNamedApart rules = AllPairs AreApart rules
 
 -- the rule has this group and this id
 abbrev pub is_named : List ℕ → List ℕ → Rule → Bool
-is_named group id rule = pointwise nat_eq rule.group group && pointwise nat_eq rule.id id
+is_named group id rule = bytes_eq rule.group group && bytes_eq rule.id id
 
 -- the rules of other names
 abbrev pub without : List ℕ → List ℕ → List Rule → List Rule

@@ -1,6 +1,5 @@
 ghost use Rattle.std.specs.Prelude.{◌≡◌, ◌≤◌, ◌<◌, ℕ, List, true, false, IfOk, OnOk, Contains, length, slice_index_or};
-ghost use Rattle.std.specs.Ordering.{is_lt};
-ghost use Rattle.rule_set.specs.Order.{bytes_order};
+ghost use Rattle.pd_types.specs.Keys.{is_below};
 ghost use Rattle.rule_set.specs.Borders.{AreRising, IsBorder, Takes, is_tied, strictly_inside};
 
 use crate::order::is_less;
@@ -19,8 +18,8 @@ fn is_inside(region: &Region, key: &[u8]) -> bool
 fn lesser(keys: &[Bytes], key: &[u8]) -> usize
     requires { AreRising keys.now }
     ensures bound { result ≤ length keys.now }
-    ensures before { (k : ℕ) (d : List ℕ) → k < result → is_lt (bytes_order (slice_index_or keys.now k d) key.now) ≡ true }
-    ensures after { (k : ℕ) (d : List ℕ) → result ≤ k → k < length keys.now → is_lt (bytes_order (slice_index_or keys.now k d) key.now) ≡ false }
+    ensures before { (k : ℕ) (d : List ℕ) → k < result → is_below (slice_index_or keys.now k d) key.now ≡ true }
+    ensures after { (k : ℕ) (d : List ℕ) → result ≤ k → k < length keys.now → is_below (slice_index_or keys.now k d) key.now ≡ false }
 {
     keys.partition_point(|one| is_less(one.as_slice(), key))
 }

@@ -1,9 +1,9 @@
 ghost use Rattle.std.specs.Prelude.{◌≡◌, ◌≢◌, ◌↔◌, ◌⊎◌, ◌<◌, ◌≤◌, ℕ, List, [], None, Some, true, false, codes, length, Contains};
-ghost use Rattle.std.specs.Ordering.{is_lt};
+ghost use Rattle.pd_types.specs.Keys.{is_below};
 ghost use Rattle.pd_types.specs.declared.rule.Rule.{Rule};
 ghost use Rattle.pd_types.specs.declared.rule.RuleRole.TheVariants.{Voter};
 ghost use Rattle.pd_types.specs.declared.region.Region.{Region};
-ghost use Rattle.rule_set.specs.Order.{bytes_order, comes_before, without, AreApart};
+ghost use Rattle.rule_set.specs.Order.{comes_before, without, AreApart};
 ghost use Rattle.rule_set.specs.declared.fault.RemoveFault.TheVariants.{Absent, LastRule};
 ghost use Rattle.rule_set.specs.declared.fault.SetFault.TheVariants.{Limit};
 ghost use Rattle.rule_set.specs.Changes.{default_rule, knows, remove_refusal, set_refusal, with_rule};
@@ -33,23 +33,23 @@ pub fn rules_go_by_their_names()
 /// The group comes first, then the index, and then the id.
 pub fn group_then_index_then_id()
     ensures group { (one other : Rule) →
-        is_lt (bytes_order one.group other.group) ≡ true → comes_before one other ≡ true }
+        is_below one.group other.group ≡ true → comes_before one other ≡ true }
     ensures index { (one other : Rule) →
         one.group ≡ other.group → one.index < other.index → comes_before one other ≡ true }
     ensures id { (one other : Rule) → one.group ≡ other.group → one.index ≡ other.index →
-        is_lt (bytes_order one.id other.id) ≡ true → comes_before one other ≡ true }
+        is_below one.id other.id ≡ true → comes_before one other ≡ true }
 {}
 
 /// The range of a rule has its start and not its end, nothing before the start, and no end where
 /// that is empty.
 pub fn a_range_ends_before_its_end()
     ensures start { (rule : Rule) →
-        is_lt (bytes_order rule.start rule.end) ≡ true → holds rule rule.start ≡ true }
+        is_below rule.start rule.end ≡ true → holds rule rule.start ≡ true }
     ensures before { (rule : Rule) (key : List ℕ) →
-        is_lt (bytes_order key rule.start) ≡ true → holds rule key ≡ false }
+        is_below key rule.start ≡ true → holds rule key ≡ false }
     ensures end { (rule : Rule) → rule.end ≢ [] → holds rule rule.end ≡ false }
     ensures endless { (rule : Rule) (key : List ℕ) → rule.end ≡ [] →
-        is_lt (bytes_order key rule.start) ≡ false → holds rule key ≡ true }
+        is_below key rule.start ≡ false → holds rule key ≡ true }
 {}
 
 /// A rule hides another at a key exactly where it overrides, is of its group, and holds the key.

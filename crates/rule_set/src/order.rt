@@ -1,6 +1,6 @@
 ghost use Rattle.std.specs.Prelude.{◌≡◌};
-ghost use Rattle.std.specs.Ordering.{is_lt};
-ghost use Rattle.rule_set.specs.Order.{order_of, bytes_order, comes_before, is_named};
+ghost use Rattle.pd_types.specs.Keys.{is_below};
+ghost use Rattle.rule_set.specs.Order.{order_of, comes_before, is_named};
 ghost use Rattle.rule_set.specs.InForce.{holds, hides};
 
 use pd_types::Rule;
@@ -25,7 +25,7 @@ pub fn is_before(one: &Rule, other: &Rule) -> bool
 
 /// Whether a key is less than another.
 pub fn is_less(one: &[u8], other: &[u8]) -> bool
-    ensures { result ≡ is_lt (bytes_order one.now other.now) }
+    ensures { result ≡ is_below one.now other.now }
 {
     one.cmp(other).is_lt()
 }

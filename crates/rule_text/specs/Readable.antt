@@ -2,7 +2,8 @@
 use Rattle.std.specs.Prelude.{ℕ, ◌≡◌, ◌<◌, ◌≤◌, true, List, length, Some}
 use Rattle.hex.specs.Hex.{IsBytes}
 use Rattle.pd_types.specs.declared.rule.Rule.{Rule}
-use Rattle.rule_text.specs.Tests.{has_name_length, is_count, is_range}
+use Rattle.pd_types.specs.Keys.{is_before_end}
+use Rattle.rule_text.specs.Tests.{has_name_length, is_count}
 
 -- bytes, and 256 of them at most
 pub record IsKey (key : List ℕ) : Type 0 where
@@ -17,5 +18,5 @@ pub record IsReadable (rule : Rule) : Type 0 where
   pub count : is_count rule.role rule.count ≡ true
   pub start : IsKey rule.start
   pub end : IsKey rule.end
-  pub range : is_range rule.start rule.end ≡ true
+  pub range : is_before_end rule.start rule.end ≡ true
   pub locations : length rule.locations ≤ 4

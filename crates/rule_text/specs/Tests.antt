@@ -1,8 +1,6 @@
 -- The tests of a rule's JSON text, each over the whole rule before the next (own choice of the order).
 use Rattle.std.specs.Prelude.{ℕ, nat_eq, nat_lt, nat_le, Bool, true, false, ◌&&◌, ◌||◌, not, if◌then◌else◌, codes, List, [], ◌∷◌, length, Option, Some, None, is_some, option_and_then, ◌≡◌, ◌⊎◌, IsUtf8}
 use Rattle.std.specs.List.{list_any, list_all}
-use Rattle.std.specs.Ordering.{nat_cmp, is_lt}
-use Rattle.std.specs.Cmp.Lexicographic.{slice_cmp}
 use Rattle.serde_json.specs.Data.{Data}
 use Rattle.serde_json.specs.Find.{get, as_str, as_bool, as_object, as_number, as_u64}
 use Rattle.serde_json.specs.Read.{read}
@@ -10,6 +8,7 @@ use Rattle.pd_types.specs.declared.rule.RuleRole.{RuleRole}
 use Rattle.pd_types.specs.declared.rule.RuleRole.TheVariants as roles
 use Rattle.pd_types.specs.declared.rule.Rule.{Rule}
 use Rattle.pd_types.specs.Bytes.{is_empty}
+use Rattle.pd_types.specs.Keys.{is_before_end}
 use Rattle.rule_text.specs.declared.fault.RuleFault.{RuleFault}
 use Rattle.rule_text.specs.declared.fault.RuleFault.TheVariants.{NotJson, NotObject, Missing, WrongKind, BadHex, BadRole, BadOp, BadCount, EmptyRange, IsolationLevel, NoMemory}
 use Rattle.rule_text.specs.Fields.{given, list_in, items_at, text_at, number_at}
@@ -140,13 +139,9 @@ is_count roles.Learner n = nat_le 1 n && nat_le n 15
 abbrev pub has_count : Data → Bool
 has_count rule = is_count (role_at rule) (number_at (codes "count") rule)
 
--- the end is empty or above the start
-abbrev pub is_range : List ℕ → List ℕ → Bool
-is_range start end = is_empty end || is_lt (slice_cmp nat_cmp start end)
-
--- the range holds a key
+-- the range has a key: its start is before its end
 abbrev pub has_range : Data → Bool
-has_range rule = is_range (bytes_at (codes "start_key") rule) (bytes_at (codes "end_key") rule)
+has_range rule = is_before_end (bytes_at (codes "start_key") rule) (bytes_at (codes "end_key") rule)
 
 -- no isolation level is set, or the empty one
 abbrev pub has_no_level : Data → Bool

@@ -8,12 +8,13 @@ ghost use Rattle.pd_types.specs.declared.rule.RuleRole.{RuleRole};
 ghost use Rattle.pd_types.specs.declared.rule.RuleRole.TheVariants.{Voter, Leader, Follower, Learner};
 ghost use Rattle.pd_types.specs.declared.rule.Constraint.{Constraint};
 ghost use Rattle.pd_types.specs.declared.rule.Rule.{Rule};
+ghost use Rattle.pd_types.specs.Keys.{is_before_end};
 ghost use Rattle.rule_text.specs.declared.fault.RuleFault.{RuleFault};
 ghost use Rattle.rule_text.specs.declared.fault.RuleFault.TheVariants as faults;
 ghost use Rattle.rule_text.specs.declared.fault.RuleFault.TheVariants.{NoMemory};
 ghost use Rattle.rule_text.specs.Fields.{given};
 ghost use Rattle.rule_text.specs.Meaning.{constraint_data, constraints_data, rule_data, texts_data, within};
-ghost use Rattle.rule_text.specs.Tests.{are_few, fits_word, has_name_length, has_no_level, is_count, is_missing, is_range, lacks_word, tests_of, Means, RefusedText};
+ghost use Rattle.rule_text.specs.Tests.{are_few, fits_word, has_name_length, has_no_level, is_count, is_missing, lacks_word, tests_of, Means, RefusedText};
 ghost use Rattle.rule_text.specs.Words.{op_of, op_word, role_of, role_word};
 
 /// Bytes mean one rule at most, and those that mean one are refused for want of memory alone. So
@@ -64,8 +65,8 @@ pub fn the_tests_stand_in_order()
         get (codes "op") one ≡ None → lacks_word one ≡ true }
     ensures absent { (name : List ℕ) (value : Data) → get name value ≡ Some null →
         given name value ≡ None }
-    ensures range { (key : List ℕ) → key ≢ [] → is_range key key ≡ false }
-    ensures endless { (key : List ℕ) → is_range key [] ≡ true }
+    ensures range { (key : List ℕ) → key ≢ [] → is_before_end key key ≡ false }
+    ensures endless { (key : List ℕ) → is_before_end key [] ≡ true }
 {}
 
 /// Under which name each field of a rule is printed, and those of a constraint. The names are those

@@ -2,9 +2,10 @@ ghost use Rattle.std.specs.Prelude.{◌≡◌, None, codes, IfOk, IfErr};
 ghost use Rattle.std.specs.List.{list_all};
 ghost use Rattle.hex.specs.Hex.{decode_of};
 ghost use Rattle.serde_json.specs.View.{view};
+ghost use Rattle.pd_types.specs.Keys.{is_before_end};
 ghost use Rattle.rule_text.specs.Meaning.{within, bytes_at, role_at, rule_of};
 ghost use Rattle.rule_text.specs.Readable.{IsReadable};
-ghost use Rattle.rule_text.specs.Tests.{is_count, is_range, has_op, have_ops, has_count, has_no_level, behind_keys, behind_kinds, first_failing, tests_of, IsFirst, Means, RefusedText};
+ghost use Rattle.rule_text.specs.Tests.{is_count, has_op, have_ops, has_count, has_no_level, behind_keys, behind_kinds, first_failing, tests_of, IsFirst, Means, RefusedText};
 
 use crate::RuleFault;
 use crate::build::build;
@@ -63,7 +64,7 @@ fn is_count(role: RuleRole, count: u32) -> bool
 }
 
 fn is_range(start: &[u8], end: &[u8]) -> bool
-    ensures { result ≡ is_range start.now end.now }
+    ensures { result ≡ is_before_end start.now end.now }
 {
     end.is_empty() || start.cmp(end).is_lt()
 }

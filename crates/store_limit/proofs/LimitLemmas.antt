@@ -1,25 +1,14 @@
 -- What one store's change makes of the limits of all.
-use Rattle.std.proofs.Common.{◌≡◌, ◌≢◌, ℕ, cond, eqb, ap, refl, ◌∙◌, arith, Option, Some, None}
-use Rattle.std.proofs.lemmas.Bool.{eq-eqb, ne_eqb}
+use Rattle.std.proofs.Common.{◌≡◌, ◌≢◌, ℕ, ap, refl, ◌∙◌, arith, Option, Some, None}
 use Rattle.std.specs.Option.{option_map_or}
-use Rattle.std.specs.Ordering.{nat_cmp}
-use Rattle.std.specs.Cmp.{nat_cmp_total, unsigned_tied}
 use Rattle.std.specs.FinMap as map
+use Rattle.id_map.proofs.Inserted.{other-insert, same-insert}
 use Rattle.store_limit.specs.declared.bucket.TheConstants.{START_RATE}
 use Rattle.store_limit.specs.declared.bucket.Buckets.{Buckets}
 use Rattle.store_limit.specs.declared.limits.LimitKind.{LimitKind}
 use Rattle.store_limit.specs.declared.limits.LimitKind.TheVariants.{AddPeer, RemovePeer}
 use Rattle.store_limit.specs.Level.{Level, available_at, full_at}
 use Rattle.store_limit.specs.Limits.{StoreLimits, available_in, changed_by, known, known_by, level_of, with_level}
-
-get-insert : {X : Type 0} (m : map.FinMap nat_cmp X) (k : ℕ) (v : X) (q : ℕ) → map.get (map.insert m k v) q ≡ cond (eqb q k) (Some v) (map.get m q)
-get-insert m k v q = map.get-insert nat_cmp_total m k v q ∙ ap (λ b. cond b (Some v) (map.get m q)) (unsigned_tied q k)
-
-same-insert : {X : Type 0} (m : map.FinMap nat_cmp X) (k : ℕ) (v : X) → map.get (map.insert m k v) k ≡ Some v
-same-insert m k v = get-insert m k v k ∙ ap (λ b. cond b (Some v) (map.get m k)) (eq-eqb k k refl)
-
-other-insert : {X : Type 0} (m : map.FinMap nat_cmp X) (k : ℕ) (v : X) (q : ℕ) → q ≢ k → map.get (map.insert m k v) q ≡ map.get m q
-other-insert m k v q away = get-insert m k v q ∙ ap (λ b. cond b (Some v) (map.get m q)) (ne_eqb q k away)
 
 -- a change of one store is none of another
 pub others-changed : (found : Option Buckets) (change : Level → Level) (limits : StoreLimits) (store other : ℕ) (kind : LimitKind) → other ≢ store

@@ -1,44 +1,13 @@
 -- What stands in a rising list at the place of an id.
 use Rattle.std.proofs.Common.{◌≡◌, ◌≢◌, ℕ, zero, suc, ◌+◌, ◌-◌, ◌<◌, ◌≤◌, Bool, true, false, cond, List, [], ◌∷◌, ◌++◌, length, get_or, take, drop, set, refl, ap, sym, ◌∙◌, arith, nat_lt, eqb, ◌⊎◌, inl, inr, subst, add-one, Some, None, map}
-use Rattle.std.proofs.lemmas.Grind.{common_steps}
 use Rattle.std.proofs.lemmas.Bool.{ltb-true, lt-ltb, le-ltb, eq-eqb, ne_eqb, cases_lt, cases_eq, cases_order}
 use Rattle.std.proofs.lemmas.List.Edits.{get_or-insert_below, get_or-insert_at, get_or-insert_above, length-insert}
-use Rattle.std.specs.List.{filter, find, insert}
+use Rattle.std.specs.List.{insert}
 use Rattle.std.specs.List.Sorted.{IsPartitionedBy}
+use Rattle.pd_types.proofs.Filters.{filter_back, filter_front, find_first, find_none, only_place, set_parts}
 use Rattle.store_table.specs.declared.entry.StoreEntry.{StoreEntry}
 use Rattle.store_table.specs.Entries.{AreRising, entry_at, state_at, placed, changed}
 use Rattle.store_table.specs.Places.{Parts, Stands}
-
--- a test that all before the place pass, and none from there on
-pub filter_front : {X : Type 0} (p : X → Bool) (xs : List X) (i : ℕ) → ((k : ℕ) (d : X) → k < i → k < length xs → p (get_or xs k d) ≡ true) → ((k : ℕ) (d : X) → i ≤ k → k < length xs → p (get_or xs k d) ≡ false) → filter p xs ≡ take i xs
-filter_front p [] i passes fails = grind (arith, common_steps)
-filter_front p (x ∷ xs) zero passes fails =
-    let rest = filter_front p xs zero (λ k d low in_list. absurd (omega arith)) (λ k d low in_list. fails (suc k) d (omega arith) (omega arith)) in
-    rw (fails 0 x (omega arith) (omega arith)) (rest ∙ refl)
-filter_front p (x ∷ xs) (suc i) passes fails =
-    let rest = filter_front p xs i (λ k d low in_list. passes (suc k) d (omega arith) (omega arith)) (λ k d low in_list. fails (suc k) d (omega arith) (omega arith)) in
-    rw (passes 0 x (omega arith) (omega arith)) (ap (λ ys. x ∷ ys) rest)
-
--- a test that none before the place passes, and all from there on
-pub filter_back : {X : Type 0} (p : X → Bool) (xs : List X) (i : ℕ) → ((k : ℕ) (d : X) → k < i → k < length xs → p (get_or xs k d) ≡ false) → ((k : ℕ) (d : X) → i ≤ k → k < length xs → p (get_or xs k d) ≡ true) → filter p xs ≡ drop i xs
-filter_back p [] i fails passes = grind (arith, common_steps)
-filter_back p (x ∷ xs) zero fails passes =
-    let rest = filter_back p xs zero (λ k d low in_list. absurd (omega arith)) (λ k d low in_list. passes (suc k) d (omega arith) (omega arith)) in
-    rw (passes 0 x (omega arith) (omega arith)) (ap (λ ys. x ∷ ys) rest)
-filter_back p (x ∷ xs) (suc i) fails passes =
-    let rest = filter_back p xs i (λ k d low in_list. fails (suc k) d (omega arith) (omega arith)) (λ k d low in_list. passes (suc k) d (omega arith) (omega arith)) in
-    rw (fails 0 x (omega arith) (omega arith)) rest
-
--- the first that passes
-pub find_first : {X : Type 0} (p : X → Bool) (xs : List X) (i : ℕ) (d : X) → i < length xs → ((k : ℕ) (e : X) → k < i → p (get_or xs k e) ≡ false) → p (get_or xs i d) ≡ true → find p xs ≡ Some (get_or xs i d)
-find_first p [] i d inside fails passes = absurd (omega arith)
-find_first p (x ∷ xs) zero d inside fails passes = rw passes refl
-find_first p (x ∷ xs) (suc i) d inside fails passes =
-    rw (fails 0 x (omega arith)) (find_first p xs i d (omega arith) (λ k e low. fails (suc k) e (omega arith)) passes)
-
-pub find_none : {X : Type 0} (p : X → Bool) (xs : List X) → ((k : ℕ) (e : X) → k < length xs → p (get_or xs k e) ≡ false) → find p xs ≡ None
-find_none p [] fails = refl
-find_none p (x ∷ xs) fails = rw (fails 0 x (omega arith)) (find_none p xs (λ k e low. fails (suc k) e (omega arith)))
 
 -- a change of those that pass, where one alone does
 pub map_none : {X : Type 0} (p : X → Bool) (f : X → X) (xs : List X) → ((k : ℕ) (e : X) → k < length xs → p (get_or xs k e) ≡ false) → map (λ x. cond (p x) (f x) x) xs ≡ xs
@@ -82,14 +51,6 @@ placed_parts {xs} {i} {rest} e parts ordered same =
 
 pub placed_new : {xs : List StoreEntry} {i : ℕ} (e : StoreEntry) → Parts e.store.id xs i i → placed e xs ≡ insert xs i e
 placed_new {xs} {i} e parts = placed_parts e parts (omega arith) (λ k d high low in_list. absurd (omega arith))
-
-set_parts : {X : Type 0} (xs : List X) (i : ℕ) (y : X) → i < length xs → set xs i y ≡ take i xs ++ (y ∷ drop (suc i) xs)
-set_parts [] i y inside = absurd (omega arith)
-set_parts (x ∷ xs) zero y inside = grind (arith, common_steps)
-set_parts (x ∷ xs) (suc i) y inside = ap (λ ys. x ∷ ys) (set_parts xs i y (omega arith))
-
-only_place : {X : Type 0} (xs : List X) (i k : ℕ) (d : X) (P : X → Type 0) → i ≡ k → P (get_or xs i d) → P (get_or xs k d)
-only_place xs i k d P same p = subst (λ j. P (get_or xs j d)) same p
 
 pub placed_known : {xs : List StoreEntry} {i : ℕ} (e : StoreEntry) → Stands e.store.id xs i → placed e xs ≡ set xs i e
 placed_known {xs} {i} e stands =

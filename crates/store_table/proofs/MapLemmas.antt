@@ -1,34 +1,13 @@
 -- The entry of an id after an entry is placed or changed.
 use Rattle.std.proofs.Common.{refl, ◌≡◌, ◌≢◌, ℕ, ◌<◌, Bool, true, false, cond, nat_eq, nat_lt, List, [], ◌∷◌, ap, sym, ◌∙◌, Option, Some, None, arith, ◌⊎◌, inl, inr}
-use Rattle.std.proofs.lemmas.Bool.{cases_order, true≢false, ne_eqb}
+use Rattle.std.proofs.lemmas.Bool.{cases_order, ne_eqb}
 use Rattle.std.proofs.lemmas.Bool.Decides.{nat_tests}
 use Rattle.std.proofs.lemmas.List.Folds.{find-append}
-use Rattle.std.specs.List.{filter, find}
+use Rattle.std.specs.List.{filter}
 use Rattle.std.specs.Option.{option_map, option_or}
+use Rattle.pd_types.proofs.Filters.{find_gone, find_kept}
 use Rattle.store_table.specs.declared.entry.StoreEntry.{StoreEntry}
 use Rattle.store_table.specs.Entries.{entry_at, placed, changed}
-
--- a filter that all whom the test finds pass
-find_kept : {X : Type 0} (p q : X → Bool) → ((x : X) → p x ≡ true → q x ≡ true) → (xs : List X) → find p (filter q xs) ≡ find p xs
-find_kept p q passes [] = refl
-find_kept p q passes (x ∷ xs) = by (p x) refl (q x) refl (find_kept p q passes xs)
-  where
-    by : (a : Bool) → p x ≡ a → (b : Bool) → q x ≡ b → find p (filter q xs) ≡ find p xs → find p (cond b (x ∷ filter q xs) (filter q xs)) ≡ cond a (Some x) (find p xs)
-    by true found true kept rest = rw found refl
-    by true found false gone rest = absurd (true≢false (sym (passes x found) ∙ gone))
-    by false other true kept rest = rw other rest
-    by false other false gone rest = rest
-
--- a filter that none whom the test finds passes
-find_gone : {X : Type 0} (p q : X → Bool) → ((x : X) → p x ≡ true → q x ≡ false) → (xs : List X) → find p (filter q xs) ≡ None
-find_gone p q fails [] = refl
-find_gone p q fails (x ∷ xs) = by (p x) refl (q x) refl (find_gone p q fails xs)
-  where
-    by : (a : Bool) → p x ≡ a → (b : Bool) → q x ≡ b → find p (filter q xs) ≡ None → find p (cond b (x ∷ filter q xs) (filter q xs)) ≡ None
-    by true found true kept rest = absurd (true≢false (sym kept ∙ fails x found))
-    by true found false gone rest = rest
-    by false other true kept rest = rw other rest
-    by false other false gone rest = rest
 
 or_none : {X : Type 0} (o : Option X) → option_or o None ≡ o
 or_none None = refl

@@ -7,7 +7,7 @@ use Rattle.store_table.specs.declared.table.TheConstants.{MOST_STORES}
 use Rattle.store_table.specs.declared.entry.StoreEntry.{StoreEntry}
 use Rattle.store_table.specs.declared.fault.StoreFault.{StoreFault}
 use Rattle.store_table.specs.declared.fault.StoreFault.TheVariants as faults
-use Rattle.store_table.specs.Standing.{later}
+use Rattle.store_table.specs.Live.{later}
 
 -- a store that sent no heartbeat
 abbrev pub loaded : StoreRec → ℕ → StoreEntry

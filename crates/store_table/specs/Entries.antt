@@ -3,7 +3,7 @@ use Rattle.std.specs.Prelude.{ℕ, ◌<◌, nat_lt, ◌==◌, Bool, false, if◌
 use Rattle.std.specs.Option.{option_map_or}
 use Rattle.pd_types.specs.declared.store.StoreState.{StoreState}
 use Rattle.store_table.specs.declared.entry.StoreEntry.{StoreEntry}
-use Rattle.store_table.specs.Standing.{live_test, usable_test}
+use Rattle.store_table.specs.Live.{live_test, usable_test}
 
 -- each store has a lesser id than those behind it
 abbrev pub AreRising : List StoreEntry → Type 0

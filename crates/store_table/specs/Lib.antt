@@ -1,5 +1,5 @@
 pub mod Entries
 pub mod Places
-pub mod Standing
+pub mod Live
 pub mod StateText
 pub mod Calls

@@ -1,5 +1,5 @@
 ghost use Rattle.std.specs.Prelude.{◌≡◌, ◌↔◌, IsTrue};
-ghost use Rattle.store_table.specs.Standing.{live_test, usable_test, state_name, IsLive, IsUsable};
+ghost use Rattle.store_table.specs.Live.{live_test, usable_test, state_name, IsLive, IsUsable};
 
 use crate::StateName;
 use pd_types::{StoreRec, StoreState};

@@ -5,7 +5,7 @@ ghost use Rattle.pd_types.specs.declared.store.StoreState.TheVariants as states;
 ghost use Rattle.store_table.specs.declared.entry.StoreEntry.{StoreEntry};
 ghost use Rattle.store_table.specs.declared.fault.StoreFault.TheVariants as faults;
 ghost use Rattle.store_table.specs.declared.names.StateName.TheVariants as names;
-ghost use Rattle.store_table.specs.Standing.{state_name, IsLive, IsUsable};
+ghost use Rattle.store_table.specs.Live.{state_name, IsLive, IsUsable};
 ghost use Rattle.store_table.specs.Entries.{entry_at, placed, changed};
 ghost use Rattle.store_table.specs.StateText.{state_text};
 ghost use Rattle.store_table.specs.Calls.{answered, heard, in_state, loaded, load_refusal, put_refusal, known_refusal, bury_refusal};

@@ -4,7 +4,7 @@ ghost use Rattle.store_table.specs.declared.table.TheConstants.{MOST_STORES};
 ghost use Rattle.store_table.specs.Entries.{AreRising, entry_at, state_at, placed, changed};
 ghost use Rattle.store_table.specs.Calls.{answered, heard, in_state, full_refusal, known_refusal, RefusedBy};
 ghost use Rattle.store_table.specs.Places.{Parts, Stands};
-ghost use Rattle.store_table.specs.Standing.{later};
+ghost use Rattle.store_table.specs.Live.{later};
 
 use crate::{MOST_STORES, StoreEntry, StoreFault};
 use pd_types::{StoreRec, StoreState};

@@ -5,7 +5,7 @@ ghost use Rattle.std.specs.Option.{option_copied};
 ghost use Rattle.pd_types.specs.declared.store.StoreState.TheVariants as states;
 ghost use Rattle.store_table.specs.declared.table.TheConstants.{MOST_STORES};
 ghost use Rattle.store_table.specs.Entries.{AreRising, entry_at, state_at, placed, changed, is_live, is_usable};
-ghost use Rattle.store_table.specs.Standing.{IsLive, IsUsable, state_name};
+ghost use Rattle.store_table.specs.Live.{IsLive, IsUsable, state_name};
 ghost use Rattle.store_table.specs.Calls.{loaded, heard, in_state, answered, load_refusal, put_refusal, known_refusal, bury_refusal, RefusedBy};
 
 use crate::places::{answer, hear, insert, kept, replace, search, set_state, stand};

@@ -1,6 +1,6 @@
 use Rattle.std.proofs.Common.{rules, of_calls, arith}
 use Rattle.std.proofs.lemmas.Fn.{always_returns_same}
-use Rattle.pd_types.specs.BeatCheck.{is_below}
+use Rattle.pd_types.specs.Keys.{is_below}
 use Rattle.meta_store.proofs.Order.{parted}
 use Rattle.meta_store.proofs.records.lesser.Goals as goal
 

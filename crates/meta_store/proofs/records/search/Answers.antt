@@ -1,7 +1,8 @@
 use Rattle.std.proofs.Common.{◌∙◌, arith, sym, ap}
 use Rattle.std.proofs.lemmas.Bool.{ltb-true}
+use Rattle.pd_types.proofs.Bools.{both}
+use Rattle.pd_types.proofs.KeyLemmas.{equal_keys, same_keys}
 use Rattle.meta_store.specs.declared.record.Cell.{Cell}
-use Rattle.meta_store.proofs.Keys.{both, equal_keys, same_keys}
 use Rattle.meta_store.proofs.Spots.{stands_at, parts_absent}
 use Rattle.meta_store.proofs.records.search.Goals as goal
 

@@ -1,6 +1,7 @@
 use Rattle.std.proofs.Common.{◌∙◌, sym, ap, arith}
 use Rattle.std.specs.Str.Parse.{digits_value}
-use Rattle.meta_store.proofs.Stored.{behind, no_id, not_true, not_false, other_id, same_id}
+use Rattle.pd_types.proofs.Bools.{not_false, not_true}
+use Rattle.meta_store.proofs.Stored.{behind, no_id, other_id, same_id}
 use Rattle.meta_store.proofs.store.id_of.Goals as goal
 
 pub returns-in_default : goal.returns-in_default

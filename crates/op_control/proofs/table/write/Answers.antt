@@ -1,8 +1,8 @@
 use Rattle.std.proofs.Common.{◌≡◌, ap, sym, ◌∙◌, Some}
 use Rattle.std.specs.FinMap as map
+use Rattle.id_map.proofs.Inserted.{known-insert}
 use Rattle.id_map.proofs.Tables.{insert-insert}
 use Rattle.op_control.specs.Written.{progressed}
-use Rattle.op_control.proofs.TableLemmas.{known-insert}
 use Rattle.op_control.proofs.table.write.Goals as goal
 
 pub set-requires : goal.set-requires

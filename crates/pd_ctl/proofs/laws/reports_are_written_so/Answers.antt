@@ -1,4 +1,4 @@
-use Rattle.store_table.specs.Standing.{state_name}
+use Rattle.store_table.specs.Live.{state_name}
 use Rattle.pd_ctl.proofs.Written.{absent_is, check_is, leader_is, nowhere_is, operators_is, region_is, schedulers_is, store_is, stores_is, tso_is, unknown_is}
 use Rattle.pd_ctl.proofs.laws.reports_are_written_so.Goals as goal
 

@@ -2,7 +2,7 @@ use Rattle.std.specs.Prelude.{map}
 use Rattle.tso_board.specs.Boards.{board_id}
 use Rattle.pd_shared.specs.Names.{no_meta}
 use Rattle.pd_run.specs.Pipes.{names_from}
-use Rattle.pd_run.specs.Starts.{turn_of_seats}
+use Rattle.pd_run.proofs.Readying.{turn_of_seats}
 use Rattle.pd_run.proofs.runner.run.Given as goal
 
 -- the board that was handed in

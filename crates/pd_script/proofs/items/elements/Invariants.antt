@@ -1,5 +1,6 @@
 use Rattle.std.proofs.Common.{◌≡◌, length}
-use Rattle.pd_script.specs.Forms.{all_in_front, items_of}
+use Rattle.pd_script.specs.Forms.{items_of}
+use Rattle.pd_script.proofs.Cutting.{all_in_front}
 use Rattle.pd_script.proofs.items.elements.Given as goal
 
 abbrev pub invariant-left : goal.invariant-left

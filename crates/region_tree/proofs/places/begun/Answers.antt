@@ -1,6 +1,6 @@
 use Rattle.std.proofs.Common.{rules, of_calls, arith}
 use Rattle.std.proofs.lemmas.Fn.{always_returns_same}
-use Rattle.region_tree.specs.Ranges.{is_before_end}
+use Rattle.pd_types.specs.Keys.{is_before_end}
 use Rattle.region_tree.proofs.Runs.{begun_parted}
 use Rattle.region_tree.proofs.places.begun.Goals as goal
 

@@ -1,7 +1,7 @@
 use Rattle.std.proofs.Common.{rules, of_calls, arith, not}
 use Rattle.std.proofs.lemmas.Fn.{always_returns_same}
-use Rattle.region_tree.specs.Ranges.{is_before_end}
-use Rattle.region_tree.proofs.Keys.{not_true, not_false}
+use Rattle.pd_types.proofs.Bools.{not_false, not_true}
+use Rattle.pd_types.specs.Keys.{is_before_end}
 use Rattle.region_tree.proofs.Runs.{ended_parted}
 use Rattle.region_tree.proofs.places.ended.Goals as goal
 

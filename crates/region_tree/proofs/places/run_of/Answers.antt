@@ -1,5 +1,5 @@
 use Rattle.std.proofs.Common.{◌≡◌, subst, true, false, get_or, arith}
-use Rattle.region_tree.specs.Ranges.{is_before_end}
+use Rattle.pd_types.specs.Keys.{is_before_end}
 use Rattle.region_tree.proofs.Runs.{run_is}
 use Rattle.region_tree.proofs.places.run_of.Goals as goal
 

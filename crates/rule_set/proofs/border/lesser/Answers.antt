@@ -1,16 +1,15 @@
 use Rattle.std.proofs.Common.{rules, of_calls, arith}
 use Rattle.std.proofs.lemmas.Fn.{always_returns_same}
-use Rattle.std.specs.Ordering.{is_lt}
-use Rattle.rule_set.specs.Order.{bytes_order}
+use Rattle.pd_types.specs.Keys.{is_below}
 use Rattle.rule_set.proofs.BorderLemmas.{keys_parted}
 use Rattle.rule_set.proofs.border.lesser.Goals as goal
 
 pub returns-clause-before : goal.returns-clause-before
 returns-clause-before c k d low =
-    let point = c.partition_point.ensures.partitioned (λ one. is_lt (bytes_order one c.args.key.now)) (always_returns_same _ _ _ (λ a r f k. search (rules, of_calls))) (keys_parted c.args.key.now c.args.keys.now c.requires) in
+    let point = c.partition_point.ensures.partitioned (λ one. is_below one c.args.key.now) (always_returns_same _ _ _ (λ a r f k. search (rules, of_calls))) (keys_parted c.args.key.now c.args.keys.now c.requires) in
     point.0 k d (omega arith) low
 
 pub returns-clause-after : goal.returns-clause-after
 returns-clause-after c k d high low =
-    let point = c.partition_point.ensures.partitioned (λ one. is_lt (bytes_order one c.args.key.now)) (always_returns_same _ _ _ (λ a r f k. search (rules, of_calls))) (keys_parted c.args.key.now c.args.keys.now c.requires) in
+    let point = c.partition_point.ensures.partitioned (λ one. is_below one c.args.key.now) (always_returns_same _ _ _ (λ a r f k. search (rules, of_calls))) (keys_parted c.args.key.now c.args.keys.now c.requires) in
     point.1 k d high low

@@ -1,9 +1,9 @@
 use Rattle.std.proofs.Common.{◌≡◌, sym, ap, ◌∙◌, Some}
 use Rattle.std.specs.FinMap as map
+use Rattle.id_map.proofs.Inserted.{same-insert}
 use Rattle.op_control.specs.declared.operator.Operator.{Operator}
 use Rattle.op_control.specs.Charging.{after_charges, first_refused}
 use Rattle.op_control.proofs.AddLemmas.{accepted-limits}
-use Rattle.op_control.proofs.TableLemmas.{same-insert}
 use Rattle.op_control.proofs.table.Operators.add.Goals as goal
 
 pub charge_stored-requires : goal.charge_stored-requires

@@ -17,13 +17,13 @@ ask-requires-clause-first g c =
     omega (arith, lawful.0.low)
 
 pub returns-in-Ask-clause-said : goal.returns-in-Ask-clause-said
-returns-in-Ask-clause-said g c = rw (c.in-Ask.is) (c.ask.ensures.said)
+returns-in-Ask-clause-said g c = rw (c.in-Ask.is) (rw (c.into_value.ensures.value) at c.ask.ensures.said)
 
 pub returns-in-Ask-clause-after : goal.returns-in-Ask-clause-after
-returns-in-Ask-clause-after g c = rw (c.in-Ask.is) (c.ask.ensures.after)
+returns-in-Ask-clause-after g c = rw (c.in-Ask.is) (rw (c.into_value.ensures.value) at c.ask.ensures.after)
 
 pub returns-in-Ask-clause-turns : goal.returns-in-Ask-clause-turns
-returns-in-Ask-clause-turns g c = rw (c.in-Ask.is) (c.ask.ensures.turns)
+returns-in-Ask-clause-turns g c = rw (c.in-Ask.is) (rw (c.into_value.ensures.value) at c.ask.ensures.turns)
 
 pub returns-in-Pop-clause-said : goal.returns-in-Pop-clause-said
 returns-in-Pop-clause-said g c = λ ends goes. rw (c.in-Pop.is) (c.pop.ensures.said (map g.B.Seated.seats c.args.benches.now.items) ends)

@@ -1,8 +1,8 @@
 use Rattle.std.proofs.Common.{◌≡◌, ◌∙◌, ap, sym, subst, true, List, Some}
 use Rattle.std.specs.Prelude.{IsSome, is_some, remove}
 use Rattle.std.specs.FinMap as map
-use Rattle.op_control.proofs.TableLemmas.{known-insert}
 use Rattle.pd_types.specs.declared.step.StepMsg.{StepMsg}
+use Rattle.id_map.proofs.Inserted.{known-insert}
 use Rattle.pd_cluster.specs.Streams.{Waiting, oldest_in}
 use Rattle.pd_cluster.proofs.Waits.{taken_left, waits_len}
 use Rattle.pd_cluster.proofs.streams.Streams.pop.Goals as goal

@@ -1,8 +1,8 @@
 use Rattle.std.proofs.Common.{◌∙◌, ap, sym, subst, List}
 use Rattle.std.specs.Prelude.{IsSome}
 use Rattle.std.specs.FinMap as map
-use Rattle.op_control.proofs.TableLemmas.{known-insert}
 use Rattle.pd_types.specs.declared.step.StepMsg.{StepMsg}
+use Rattle.id_map.proofs.Inserted.{known-insert}
 use Rattle.pd_cluster.specs.Streams.{Waiting}
 use Rattle.pd_cluster.proofs.Waits.{sent_on}
 use Rattle.pd_cluster.proofs.streams.Streams.send.Goals as goal

@@ -52,9 +52,3 @@ kept_old p y (x ∷ xs) h passes = by (p x) refl (contains_cases x y xs h) (λ t
     by true is (inr there) rest = contains_tail x y (filter p xs) (rest there)
     by false is (inl here) rest = absurd (true≢false (sym passes ∙ ap p (sym here) ∙ is))
     by false is (inr there) rest = rest there
-
-pub pairs_head : {X : Type 0} (R : X → X → Type 0) (x : X) (xs : List X) → AllPairs R (x ∷ xs) → All (R x) xs
-pairs_head R x xs pairs k d low = pairs 0 (suc k) d (omega arith) (omega arith)
-
-pub pairs_tail : {X : Type 0} (R : X → X → Type 0) (x : X) (xs : List X) → AllPairs R (x ∷ xs) → AllPairs R xs
-pairs_tail R x xs pairs i j d less low = pairs (suc i) (suc j) d (omega arith) (omega arith)
