@@ -16,7 +16,7 @@ use Rattle.tso_model.specs.Ledger.{Climb, place}
 use Rattle.tso_model.specs.Sound.{IsSetup}
 use Rattle.tso_model.specs.Words.{Inside, passes}
 use Rattle.tso_model.specs.OneHistory.{IsAbove}
-use Rattle.tso_core.specs.Laws.{Adds, IsFair, IsUpTo, Tells, seen_at, seen_by, windows_with, with_batch}
+use Rattle.tso_laws.specs.Laws.{Adds, IsFair, IsUpTo, Tells, seen_at, seen_by, windows_with, with_batch}
 use Rattle.tso_core.specs.Says.{OfWindows, Stay, says}
 use Rattle.tso_core.specs.Rows.{resigned_of}
 use Rattle.tso_core.specs.Sound.{IsSound, HasDriver, HasClient}
@@ -28,9 +28,9 @@ use Rattle.tso_core.specs.declared.reply.Reply.TheVariants.{Got, Nothing, CellRe
 use Rattle.tso_core.specs.declared.reply.Kind.TheVariants.{Read as ToRead, Campaign as ToCampaign, Save as ToSave, Raise as ToRaise, Publish as ToPublish, Probe as ToProbe, Look as ToLook, Arm as ToArm, Draw as ToDraw, Resign as Resigning}
 use Rattle.pd_types.specs.declared.oracle.Actor.{Actor}
 use Rattle.pd_types.specs.declared.oracle.Actor.TheVariants.{Driver, Client, Store}
-use Rattle.tso_core.proofs.Granted.{ledger, bounded}
+use Rattle.tso_laws.proofs.Granted.{ledger, bounded}
 use Rattle.tso_core.proofs.Stepping.{call_by}
-use Rattle.tso_core.proofs.Telling.{each_call_tells, is_new}
+use Rattle.tso_laws.proofs.Telling.{each_call_tells, is_new}
 use Rattle.tso_model.specs.declared.step.WordStep.TheVariants.{ClearLimit}
 use Rattle.pd_script.specs.Lawful.{AreLawful, IsInRange, IsLawful, IsLawfulScript, actor_in}
 use Rattle.pd_script.specs.declared.place.Place.TheVariants.{Driver as AtDriver, Client as AtClient, Count as AtCount}

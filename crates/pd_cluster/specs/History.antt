@@ -6,7 +6,7 @@ use Rattle.pd_types.specs.declared.oracle.CellWord.{CellWord}
 use Rattle.pd_types.specs.declared.oracle.Window.{Window}
 use Rattle.tso_model.specs.Words.{passes}
 use Rattle.tso_model.specs.OneHistory.{IsAbove, IsOneHistory}
-use Rattle.tso_core.specs.Laws.{seen_by, windows_told}
+use Rattle.tso_laws.specs.Laws.{seen_by, windows_told}
 use Rattle.tso_core.specs.Says.{says}
 use Rattle.tso_core.specs.declared.reply.Reply.{Reply}
 use Rattle.tso_core.specs.declared.reply.Reply.TheVariants.{Got, Again}

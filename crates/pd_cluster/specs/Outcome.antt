@@ -5,7 +5,7 @@ use Rattle.std.specs.Io.KnownBytes.{Appends, Consumes, IsAtEnd, Keeps}
 use Rattle.pd_lines.specs.Input.{TakesFew}
 use Rattle.pd_lines.specs.Output.{WritesPrefix}
 use Rattle.pd_types.specs.Timestamp.{timestamp, physical, logical}
-use Rattle.tso_core.specs.Laws.{AreBounded}
+use Rattle.tso_laws.specs.Laws.{AreBounded}
 use Rattle.pd_script.specs.Numbering.{reason_number}
 use Rattle.pd_script.specs.Scripts.{script_of}
 use Rattle.pd_script.specs.declared.refusal.Limited.{Limited}

@@ -4,7 +4,7 @@ ghost use Rattle.pd_cluster.specs.RunText.{call_text, client_line, client_reply,
 ghost use Rattle.pd_cluster.specs.Terms.{EndsTerm};
 ghost use Rattle.pd_cluster.specs.declared.said.Said.TheVariants.{ByOracle};
 ghost use Rattle.pd_types.specs.declared.oracle.Seen.{Seen};
-ghost use Rattle.tso_core.specs.Laws.{learned};
+ghost use Rattle.tso_laws.specs.Laws.{learned};
 ghost use Rattle.tso_core.specs.Says.{says};
 ghost use Rattle.tso_model.specs.declared.view.Setup.{Setup};
 ghost use Rattle.tso_outcome.specs.Clients.{got, seen_after};

@@ -13,7 +13,7 @@ use Rattle.tso_core.specs.Machine.{whole_of, place_of, room_at, Goes}
 use Rattle.tso_core.specs.Rows.{told, gone, goes_on, row}
 use Rattle.tso_core.specs.Sound.{IsSound}
 use Rattle.tso_core.specs.Steps.{Stepped, due_of, due_step}
-use Rattle.tso_core.proofs.Calm.{due_sound, due_setup}
+use Rattle.tso_core.proofs.Keeping.{due_sound, due_setup}
 use Rattle.tso_core.proofs.Dues.{is_due}
 
 -- an answer and the state in memory

@@ -3,7 +3,6 @@ pub mod Cached
 pub mod Done
 pub mod Driving
 pub mod Due
-pub mod Laws
 pub mod Machine
 pub mod Notes
 pub mod Opened
@@ -19,4 +18,3 @@ pub mod State
 pub mod Steps
 pub mod Text
 pub mod Whole
-pub mod WholeCalls

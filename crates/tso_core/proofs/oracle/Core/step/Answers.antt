@@ -7,7 +7,7 @@ use Rattle.tso_core.specs.Steps.{Stepped, due_of}
 use Rattle.tso_core.specs.Whole.{Whole}
 use Rattle.tso_core.specs.declared.reply.Due.{Due}
 use Rattle.tso_core.specs.declared.reply.Reply.TheVariants.{OutOfTurn}
-use Rattle.tso_core.proofs.Calm.{due_sound, due_setup}
+use Rattle.tso_core.proofs.Keeping.{due_sound, due_setup}
 use Rattle.tso_core.proofs.Dues.{is_due}
 use Rattle.tso_core.proofs.Stepping.{step_else}
 use Rattle.tso_core.proofs.oracle.Core.step.Goals as goal

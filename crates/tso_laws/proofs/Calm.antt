@@ -1,4 +1,4 @@
--- Every step keeps the state sound and the setup, and none but a draw changes what a client has seen.
+-- No step but a draw changes what a client has seen.
 use Rattle.std.proofs.Common.{◌≡◌, ◌≢◌, ℕ, Bool, true, false, cond, List, refl, sym, ap, subst, ◌∙◌, arith}
 use Rattle.std.specs.List.{AllByRecursion}
 use mathlib.Core.Logic.{dite}
@@ -23,23 +23,18 @@ use Rattle.tso_core.specs.Steps.{Stepped, decided, ends, probe_decides, its_save
 use Rattle.tso_core.specs.Rows.{row}
 use Rattle.tso_core.specs.Sound.{IsSound, HasClient, HasDriver}
 use Rattle.tso_core.specs.Asked.{HasActor, IsAsked}
-use Rattle.tso_core.specs.Laws.{seen_at}
+use Rattle.tso_laws.specs.Laws.{seen_at}
 use Rattle.tso_core.proofs.Driven.{read_sound, campaign_sound, save_sound, raise_sound, publish_sound, probe_sound, resign_sound}
-use Rattle.tso_core.proofs.Drawn.{inside, look_sound, arm_sound, draw_sound}
+use Rattle.tso_core.proofs.Drawn.{inside, look_sound, arm_sound}
 use Rattle.tso_core.proofs.Kept.{view_here, view_else}
-use Rattle.tso_core.proofs.Saying.{IsDry}
-use Rattle.tso_core.proofs.Stepping.{OnMove, on_weaker, due_by, row_by}
+use Rattle.tso_laws.proofs.Saying.{IsDry}
+use Rattle.tso_core.proofs.Stepping.{OnMove, due_by, row_by}
 
 -- the state stays sound, and no client learns anything
 pub record Calm (w u : Whole) : Type 0 where
   pub sound : IsSound u
   pub setup : u.setup ≡ w.setup
   pub seens : (e : ℕ) → HasClient w.setup e → seen_at u e ≡ seen_at w e
-
--- the state after a call is sound
-pub record Keeps (w : Whole) (r : Stepped) : Type 0 where
-  pub sound : IsSound r.after
-  pub setup : r.after.setup ≡ w.setup
 
 pub still : (w : Whole) → IsSound w → Calm w w
 still w s = record { sound = s; setup = refl; seens = λ e has. refl }
@@ -97,21 +92,6 @@ module _ (w : Whole) (s : IsSound w) where
       (by_bool (λ b. (cond b (refused at n v) (record v { armed = n })).seen ≡ v.seen) (passes at (hand v).hi n) (λ _. refl) (λ _. refl))
   calm_move (Client c) Draw dry has asked due = absurd dry
   calm_move actor kind dry has asked due = tt
-
-  -- what every move keeps
-  keeps_move : (actor : Actor) (kind : Kind) → HasActor w.setup actor → IsAsked w.setup kind → due_of w actor ≡ due_for kind → OnMove (Keeps w) w (move_of actor kind)
-  keeps_move (Client c) Draw has asked due = record { sound = draw_sound w s c has.pos has.low due; setup = refl }
-  keeps_move actor kind has asked due = on_weaker (λ (r : Stepped). Calm w r.after) (Keeps w) w (λ r calm. record { sound = calm.sound; setup = calm.setup }) (move_of actor kind) (calm_move actor kind tt has asked due)
-
-  pub due_keeps : (actor : Actor) (kind : Kind) → HasActor w.setup actor → IsAsked w.setup kind → due_of w actor ≡ due_for kind → Keeps w (due_step w actor kind)
-  due_keeps actor kind has asked due = due_by (Keeps w) w actor kind (record { sound = s; setup = refl }) (keeps_move actor kind has asked due)
-
-  -- the same of what a step left
-  pub due_sound : (actor : Actor) (kind : Kind) → HasActor w.setup actor → IsAsked w.setup kind → due_of w actor ≡ due_for kind → (same : Actor) → actor ≡ same → (u : Whole) → u ≡ (due_step w same kind).after → IsSound u
-  due_sound actor kind has asked due same is u after = subst (λ (x : Whole). IsSound x) (ap (λ (a : Actor). (due_step w a kind).after) is ∙ sym after) (due_keeps actor kind has asked due).sound
-
-  pub due_setup : (actor : Actor) (kind : Kind) → HasActor w.setup actor → IsAsked w.setup kind → due_of w actor ≡ due_for kind → (same : Actor) → actor ≡ same → (u : Whole) → u ≡ (due_step w same kind).after → u.setup ≡ w.setup
-  due_setup actor kind has asked due same is u after = subst (λ (x : Whole). x.setup ≡ w.setup) (ap (λ (a : Actor). (due_step w a kind).after) is ∙ sym after) (due_keeps actor kind has asked due).setup
 
 -- a row that draws nothing
 pub row_calm : (w : Whole) (actor : Actor) → HasActor w.setup actor → (kinds : List Kind) → AllByRecursion (λ (kind : Kind). IsDry actor kind × IsAsked w.setup kind) kinds → (r : Stepped) → Calm w r.after → Calm w (row actor kinds r).after

@@ -25,7 +25,7 @@ use Rattle.tso_core.specs.Steps.{Stepped, out_of_turn, decided, ends, goes, prob
 use Rattle.tso_core.specs.Rows.{gone, goes_on, row, won_by, won, call_of, lead_of, tick_of, resigned_of, take_of}
 use Rattle.tso_core.specs.Notes.{tell_of, hear_of, heard_from, note_left}
 use Rattle.tso_core.specs.Says.{OfWindows, Stay, Begin, BeginEmpty, End, Saying, nothing_said, says, HasPassed}
-use Rattle.tso_core.specs.Laws.{Makes, IsNext, IsInTurn, ComesAtRest, AgainPassed, TakeAgainPassed, RefusesOutOfTurn, Adds, with_batch, BatchesGrow}
+use Rattle.tso_laws.specs.Laws.{Makes, IsNext, IsInTurn, ComesAtRest, AgainPassed, TakeAgainPassed, RefusesOutOfTurn, Adds, with_batch, BatchesGrow}
 use Rattle.tso_core.proofs.Cases.{read_cases, goes_cases, look_cases, told_cases}
 use Rattle.tso_core.proofs.Dues.{is_due, is_same}
 use Rattle.tso_core.proofs.Stepping.{OnMove, on_weaker, move_made, no_move, step_by, goes_by, row_by, call_rest, call_out, call_by}

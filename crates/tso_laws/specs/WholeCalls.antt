@@ -21,7 +21,7 @@ use Rattle.tso_core.specs.Rows.{lead_of, tick_of, resigned_of, take_of}
 use Rattle.tso_core.specs.Notes.{tell_of, hear_of}
 use Rattle.tso_core.specs.Sound.{HasDriver, HasClient}
 use Rattle.tso_core.specs.Asked.{IsCount}
-use Rattle.tso_core.specs.Laws.{Step, played, seen_at}
+use Rattle.tso_laws.specs.Laws.{Step, played, seen_at}
 
 -- the call leaves what these steps of the actor leave, one after another
 abbrev pub IsRow : Whole → Actor → List Kind → Stepped → Type 0

@@ -13,7 +13,7 @@ use Rattle.tso_core.specs.Steps.{Stepped, out_of_turn, due_at}
 use Rattle.tso_core.specs.Due.{same_due}
 use Rattle.tso_core.specs.Notes.{tell_of, hear_of, heard_from, note_left, note_met}
 use Rattle.tso_core.specs.Sound.{IsSound, HasClient, waiting}
-use Rattle.tso_core.specs.WholeCalls.{waits_for, LeavesRun, TellTells, Hears, HearTells}
+use Rattle.tso_laws.specs.WholeCalls.{waits_for, LeavesRun, TellTells, Hears, HearTells}
 use Rattle.tso_core.proofs.Dues.{is_same}
 use Rattle.tso_core.proofs.Places.{at_get}
 use Rattle.tso_core.proofs.Told.{old_view, new_view, else_view, not_note}

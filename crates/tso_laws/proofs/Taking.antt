@@ -28,13 +28,13 @@ use Rattle.tso_core.specs.Steps.{Stepped, out_of_turn, client_due, looked_reply,
 use Rattle.tso_core.specs.Rows.{gone, goes_on, take_of}
 use Rattle.tso_core.specs.Sound.{IsSound, HasDriver, HasClient}
 use Rattle.tso_core.specs.Asked.{IsCount}
-use Rattle.tso_core.specs.Laws.{Step, played}
-use Rattle.tso_core.specs.WholeCalls.{draw_state, Draws, LeavesRest, limit_of, cursor_of, next_batch, grantee, TakeTells}
+use Rattle.tso_laws.specs.Laws.{Step, played}
+use Rattle.tso_laws.specs.WholeCalls.{draw_state, Draws, LeavesRest, limit_of, cursor_of, next_batch, grantee, TakeTells}
 use Rattle.tso_core.proofs.Bounds.{limit_fits}
 use Rattle.tso_core.proofs.Cases.{look_cases}
 use Rattle.tso_core.proofs.Drawn.{resting, inside}
 use Rattle.tso_core.proofs.Dues.{is_same}
-use Rattle.tso_core.proofs.Reached.{at_is}
+use Rattle.tso_laws.proofs.Reached.{at_is}
 use Rattle.tso_core.proofs.Stepping.{call_rest}
 
 -- u has this view of the client c, this cursor of the driver d and these batches, and all else as w

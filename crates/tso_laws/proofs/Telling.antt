@@ -32,17 +32,17 @@ use Rattle.tso_core.specs.Says.{says, seen_of}
 use Rattle.tso_core.specs.Sound.{IsSound, HasDriver, HasClient}
 use Rattle.tso_core.specs.Asked.{HasActor, IsAsked, IsCount}
 use Rattle.tso_core.specs.Opened.{opened}
-use Rattle.tso_core.specs.Laws.{Tells, EachCallTells, TakesGrant, IsNew, IsUpTo, Call, Step, Tell, Hear, IsCall, AreCalls, after_call, played, learned, seen_with, seen_at, client_of, driver_of}
-use Rattle.tso_core.proofs.Calm.{Calm, still, calm_move, row_calm, else_sees, own_sees}
+use Rattle.tso_laws.specs.Laws.{Tells, EachCallTells, TakesGrant, IsNew, IsUpTo, Call, Step, Tell, Hear, IsCall, AreCalls, after_call, played, learned, seen_with, seen_at, client_of, driver_of}
+use Rattle.tso_laws.proofs.Calm.{Calm, still, calm_move, row_calm, else_sees, own_sees}
 use Rattle.tso_core.proofs.Drawn.{own, inside, draw_sound}
 use Rattle.tso_core.proofs.Dues.{is_due, draws}
-use Rattle.tso_core.proofs.Granted.{grants}
+use Rattle.tso_laws.proofs.Granted.{grants}
 use Rattle.tso_core.proofs.Places.{at_get}
-use Rattle.tso_core.proofs.Saying.{Fair, Quiet, quiet_move, lead_quiet, tick_quiet, arm_quiet, step_fair, lead_fair, tick_fair, resign_fair, take_fair, tell_fair, hear_fair}
+use Rattle.tso_laws.proofs.Saying.{Fair, Quiet, quiet_move, lead_quiet, tick_quiet, arm_quiet, step_fair, lead_fair, tick_fair, resign_fair, take_fair, tell_fair, hear_fair}
 use Rattle.tso_core.proofs.Started.{client_at, opened_sound}
 use Rattle.tso_core.proofs.Stepping.{OnMove, step_by, goes_by, call_by}
 use Rattle.tso_core.proofs.Told.{told_sound, heard_sound, old_view, else_view, own_view, is_note}
-use Rattle.tso_core.proofs.Windowed.{Shows, step_shows, lead_shows, tick_shows, resign_shows, take_shows, tell_shows, hear_shows}
+use Rattle.tso_laws.proofs.Windowed.{Shows, step_shows, lead_shows, tick_shows, resign_shows, take_shows, tell_shows, hear_shows}
 
 -- one of the two pairs is at most the other
 abbrev InOrder : Seen → Seen → Type 0

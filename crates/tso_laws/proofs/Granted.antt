@@ -16,7 +16,7 @@ use Rattle.tso_core.specs.Whole.{Whole, place_of_client, view_at, found_by}
 use Rattle.tso_core.specs.Steps.{due_at}
 use Rattle.tso_core.specs.Sound.{IsSound, HasClient}
 use Rattle.tso_model.specs.OneHistory.{IsAbove}
-use Rattle.tso_core.specs.Laws.{AreLedger, AreBounded, IsGranted, DrawsGrant}
+use Rattle.tso_laws.specs.Laws.{AreLedger, AreBounded, IsGranted, DrawsGrant}
 use Rattle.tso_core.proofs.Dues.{draws}
 use Rattle.tso_core.proofs.Drawn.{own, inside}
 use Rattle.tso_core.proofs.Places.{at_get}

@@ -25,8 +25,8 @@ use Rattle.tso_core.specs.Whole.{Whole, view_at, turn_at, found_by, made, turned
 use Rattle.tso_core.specs.Steps.{Stepped, out_of_turn, decided, read_decides, campaign_decides, save_decides, raise_decides, probe_decides, its_save, its_raise, its_publish, its_end, read_of, campaign_of, save_of, raise_of, publish_of, ends, due_step, step_of}
 use Rattle.tso_core.specs.Rows.{told, gone, goes_on}
 use Rattle.tso_core.specs.Sound.{IsSound, HasDriver}
-use Rattle.tso_core.specs.Laws.{Step, played}
-use Rattle.tso_core.specs.WholeCalls.{DriverState, driver_state, Answers, LeavesOthers}
+use Rattle.tso_laws.specs.Laws.{Step, played}
+use Rattle.tso_laws.specs.WholeCalls.{DriverState, driver_state, Answers, LeavesOthers}
 
 -- what a driver's steps touch
 pub record Part : Type 0 where

@@ -33,13 +33,13 @@ use Rattle.tso_core.specs.Says.{OfWindows, Stay, says}
 use Rattle.tso_core.specs.Notes.{tell_of, hear_of, heard_from, note_left}
 use Rattle.tso_core.specs.Sound.{IsSound, HasDriver, StandsAt}
 use Rattle.tso_core.specs.Asked.{HasActor}
-use Rattle.tso_core.specs.Laws.{windows_told, windows_with, lengthened_by, longer_by, ended_at, last_end, driver_of}
-use Rattle.tso_core.specs.WholeCalls.{DriverState, driver_state, Answers, cell_at, cursor_of, later_window, LeadTells, TickTells}
+use Rattle.tso_laws.specs.Laws.{windows_told, windows_with, lengthened_by, longer_by, ended_at, last_end, driver_of}
+use Rattle.tso_laws.specs.WholeCalls.{DriverState, driver_state, Answers, cell_at, cursor_of, later_window, LeadTells, TickTells}
 use Rattle.tso_core.proofs.Bounds.{cell_fits, held_from}
 use Rattle.tso_core.proofs.Cases.{read_cases, goes_cases, look_cases}
 use Rattle.tso_core.proofs.Dues.{is_due}
-use Rattle.tso_core.proofs.Lasts.{older_of, all_are, its, its_fits, last_own}
-use Rattle.tso_core.proofs.Leading.{lead_tells, tick_tells}
+use Rattle.tso_laws.proofs.Lasts.{older_of, all_are, its, its_fits, last_own}
+use Rattle.tso_laws.proofs.Leading.{lead_tells, tick_tells}
 use Rattle.tso_core.proofs.Places.{at_get}
 use Rattle.tso_core.proofs.Stepping.{OnMove, due_by, step_by, row_by, call_by, busy_call}
 
@@ -267,7 +267,7 @@ module _ (w : Whole) (s : IsSound w) (d : ℕ) (has : HasDriver w.setup d) where
           (λ other. lost_shows next goes near (omega (arith, clock)) (λ same. other (ap (λ (c : CellWord). c.saved) same)))))
           (λ far. answered _ _ _ (tick_of w d now) (tells.moved holds next goes (omega (arith, far))) (sym held_stays))
         where
-          lost_shows : (next : ℕ) → tick_next (cursor_of w d) (held (view_at w d)).hi now ≡ Some next → (held (view_at w d)).hi ≤ next + 1 → next + 3000 < 2 ^ 45 → ¬ Rattle.tso_core.specs.WholeCalls.IsOwn w d → Shows w d (tick_of w d now)
+          lost_shows : (next : ℕ) → tick_next (cursor_of w d) (held (view_at w d)).hi now ≡ Some next → (held (view_at w d)).hi ≤ next + 1 → next + 3000 < 2 ^ 45 → ¬ Rattle.tso_laws.specs.WholeCalls.IsOwn w d → Shows w d (tick_of w d now)
           lost_shows next goes near clock other = answered _ _ _ (tick_of w d now) (tells.lost holds next goes near clock other) refl
 
     tick_rest_shows : Shows w d (tick_of w d now)

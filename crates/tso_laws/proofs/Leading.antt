@@ -27,13 +27,13 @@ use Rattle.tso_core.specs.Whole.{Whole, view_at, turn_at, found_by, made}
 use Rattle.tso_core.specs.Steps.{Stepped, decided, ends, goes, read_decides, moves_to, goes_to, probe_decides, its_end, due_step, read_of, probe_of, resign_of}
 use Rattle.tso_core.specs.Rows.{gone, goes_on, row, won_by, won, lead_of, tick_of, resigned_of}
 use Rattle.tso_core.specs.Sound.{IsSound, HasDriver, IsDriver, StandsAt, IsSettled}
-use Rattle.tso_core.specs.WholeCalls.{DriverState, driver_state, Answers, NotLeads, cell_at, cursor_of, winner, mover, saver, loser, later_window, IsOwn, Goes, LeadTells, TickTells, ResignTells}
+use Rattle.tso_laws.specs.WholeCalls.{DriverState, driver_state, Answers, NotLeads, cell_at, cursor_of, winner, mover, saver, loser, later_window, IsOwn, Goes, LeadTells, TickTells, ResignTells}
 use Rattle.tso_core.proofs.Driven.{driver_held}
 use Rattle.tso_core.proofs.Dues.{is_same}
-use Rattle.tso_core.proofs.Lasts.{older_of, last_own}
+use Rattle.tso_laws.proofs.Lasts.{older_of, last_own}
 use Rattle.tso_core.proofs.Places.{at_get}
 use Rattle.tso_core.proofs.Cases.{read_cases, moves_cases}
-use Rattle.tso_core.proofs.Reached.{Part, part_of, Reached, begins, Went, Ran, read_goes, campaign_goes, save_goes, raise_goes, probe_goes, publish_goes, clear_goes, resign_goes, next_in, passed_in, first_in, answers}
+use Rattle.tso_laws.proofs.Reached.{Part, part_of, Reached, begins, Went, Ran, read_goes, campaign_goes, save_goes, raise_goes, probe_goes, publish_goes, clear_goes, resign_goes, next_in, passed_in, first_in, answers}
 use Rattle.tso_core.proofs.Stepping.{call_rest}
 
 -- the first save of a term sets the start

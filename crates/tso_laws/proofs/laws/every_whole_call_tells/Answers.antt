@@ -1,8 +1,8 @@
-use Rattle.tso_core.proofs.Leading.{lead_tells, tick_tells, resign_tells}
-use Rattle.tso_core.proofs.Named.{steps_name}
-use Rattle.tso_core.proofs.Noted.{tell_tells, hear_tells}
-use Rattle.tso_core.proofs.Taking.{take_tells}
-use Rattle.tso_core.proofs.laws.every_whole_call_tells.Goals as goal
+use Rattle.tso_laws.proofs.Leading.{lead_tells, tick_tells, resign_tells}
+use Rattle.tso_laws.proofs.Named.{steps_name}
+use Rattle.tso_laws.proofs.Noted.{tell_tells, hear_tells}
+use Rattle.tso_laws.proofs.Taking.{take_tells}
+use Rattle.tso_laws.proofs.laws.every_whole_call_tells.Goals as goal
 
 pub returns : goal.returns
 returns c = record {

@@ -21,11 +21,11 @@ use Rattle.tso_core.specs.Due.{due_for, at_rest}
 use Rattle.tso_core.specs.Whole.{Whole, place_of_client, view_at, turn_at, found_by, made}
 use Rattle.tso_core.specs.Steps.{Stepped, decided, ends, probe_decides, move_of, read_of, campaign_of, save_of, raise_of, publish_of, probe_of, look_of, arm_of}
 use Rattle.tso_core.specs.Sound.{IsSound, HasDriver, StandsAt}
-use Rattle.tso_core.specs.WholeCalls.{NamesWord, NamesLimit, StepsName, cell_at, cursor_of, limit_of}
+use Rattle.tso_laws.specs.WholeCalls.{NamesWord, NamesLimit, StepsName, cell_at, cursor_of, limit_of}
 use Rattle.tso_core.proofs.Driven.{driver_held}
 use Rattle.tso_core.proofs.Cases.{read_cases, goes_cases, look_cases}
 use Rattle.tso_core.proofs.Stepping.{OnMove, step_by}
-use Rattle.tso_core.proofs.Lasts.{its}
+use Rattle.tso_laws.proofs.Lasts.{its}
 
 -- a campaign by its test
 claim_names : (u : Whole) (d : ℕ) (b : Bool) (known : CellWord) (n : ℕ) (won lost : Turn) → slice_index u.words 0 ≡ cond b (packed known.saved (known.term + 1)) n → known.term < 262143

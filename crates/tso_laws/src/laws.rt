@@ -5,8 +5,8 @@ ghost use Rattle.tso_model.specs.Sound.{IsSetup};
 ghost use Rattle.tso_core.specs.Whole.{Whole};
 ghost use Rattle.tso_core.specs.Sound.{IsSound};
 ghost use Rattle.tso_core.specs.Opened.{opened};
-ghost use Rattle.tso_core.specs.WholeCalls.{EachWholeCallTells, StepsName};
-ghost use Rattle.tso_core.specs.Laws.{AreLedger, AreBounded, DrawsGrant, AgainPassed, TakeAgainPassed, RefusesOutOfTurn, BatchesGrow, TakesGrant, EachCallTells, IsNew, Call, AreCalls, played};
+ghost use Rattle.tso_laws.specs.WholeCalls.{EachWholeCallTells, StepsName};
+ghost use Rattle.tso_laws.specs.Laws.{AreLedger, AreBounded, DrawsGrant, AgainPassed, TakeAgainPassed, RefusesOutOfTurn, BatchesGrow, TakesGrant, EachCallTells, IsNew, Call, AreCalls, played};
 
 /// The state is sound after every list of steps and notes of any actors.
 pub fn every_list_of_calls_keeps()

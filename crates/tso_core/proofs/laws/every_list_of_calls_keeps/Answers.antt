@@ -1,5 +1,0 @@
-use Rattle.tso_core.proofs.Telling.{each_list_keeps}
-use Rattle.tso_core.proofs.laws.every_list_of_calls_keeps.Goals as goal
-
-pub returns : goal.returns
-returns c = record { sound = each_list_keeps }

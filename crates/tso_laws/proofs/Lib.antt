@@ -1,0 +1,11 @@
+pub mod Calm
+pub mod Granted
+pub mod Lasts
+pub mod Leading
+pub mod Named
+pub mod Noted
+pub mod Reached
+pub mod Saying
+pub mod Taking
+pub mod Telling
+pub mod Windowed
