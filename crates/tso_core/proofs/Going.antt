@@ -1,20 +1,23 @@
 -- A row of steps, as far as it has come.
-use Rattle.std.proofs.Common.{◌≡◌, ℕ, zero, suc, ◌+◌, ◌<◌, ◌≤◌, Bool, true, false, cond, List, [], ◌∷◌, length, get_or, drop, refl, sym, ap, subst, ◌∙◌, arith, drop-cons}
-use Rattle.std.specs.Prelude.{Option, unwrap_or}
+use Rattle.std.proofs.Common.{◌≡◌, ℕ, zero, suc, ◌+◌, ◌<◌, ◌≤◌, Bool, true, cond, List, [], ◌∷◌, length, get_or, drop, sym, ap, subst, ◌∙◌, arith, drop-cons}
 use Rattle.std.specs.List.{AllByRecursion}
 use Rattle.pd_types.specs.declared.oracle.Actor.{Actor}
+use Rattle.pd_types.specs.declared.oracle.Actor.TheVariants.{Client}
 use Rattle.tso_model.specs.declared.view.Setup.{Setup}
 use Rattle.tso_core.specs.declared.machine.Machine.{Machine}
+use Rattle.tso_core.specs.declared.reply.Due.{Due}
+use Rattle.tso_core.specs.declared.reply.Due.TheVariants.{Rest}
 use Rattle.tso_core.specs.declared.reply.Kind.{Kind}
+use Rattle.tso_core.specs.declared.reply.Kind.TheVariants.{Look, Arm, Draw}
 use Rattle.tso_core.specs.declared.reply.Reply.{Reply}
+use Rattle.tso_core.specs.declared.reply.Reply.TheVariants.{OutOfTurn}
 use Rattle.tso_core.specs.Asked.{HasActor, IsAsked}
-use Rattle.tso_core.specs.Due.{same_due, due_for}
-use Rattle.tso_core.specs.Machine.{whole_of, place_of, room_at, Goes}
-use Rattle.tso_core.specs.Rows.{told, gone, goes_on, row}
+use Rattle.tso_core.specs.Due.{same_due}
+use Rattle.tso_core.specs.Machine.{whole_of, place_of, room_at, Answers, Goes}
+use Rattle.tso_core.specs.Rows.{goes_on, row, take_kinds, take_of}
 use Rattle.tso_core.specs.Sound.{IsSound}
-use Rattle.tso_core.specs.Steps.{Stepped, due_of, due_step}
-use Rattle.tso_core.proofs.Keeping.{due_sound, due_setup}
-use Rattle.tso_core.proofs.Dues.{is_due}
+use Rattle.tso_core.specs.Steps.{Stepped, out_of_turn, due_of}
+use Rattle.tso_core.specs.Whole.{Whole}
 
 -- an answer and the state in memory
 abbrev at_machine : Reply → Machine → Stepped
@@ -38,41 +41,42 @@ row_more actor kinds i d r s within is =
     let next : i + 1 ≡ suc i = omega arith in
     ap (λ (j : ℕ). row actor (drop j kinds) s) next ∙ ap (row actor (drop (suc i) kinds)) is ∙ sym (ap (λ (l : List Kind). row actor l r) (drop-cons kinds i d within))
 
-module _ (begun : Machine) (actor : Actor) (kinds : List Kind) (before : Reply) (i : ℕ) (m : Machine) (answer : Reply) (d : Kind) (along : IsAlong begun actor kinds before i m answer) (within : i < length kinds)
-    (has : HasActor begun.setup actor) (asked : AllByRecursion (IsAsked begun.setup) kinds) where
-  abbrev kind : Kind
-  kind = get_or kinds i d
+-- the row goes on with one more kind
+pub along_more : (begun : Machine) (actor : Actor) (kinds : List Kind) (before : Reply) (i : ℕ) (m n : Machine) (answer reply : Reply) (d : Kind) → IsAlong begun actor kinds before i m answer → i < length kinds
+    → Goes (place_of m.setup actor) m reply n (goes_on actor (at_machine answer m) (get_or kinds i d)) → IsSound (whole_of n) → n.setup ≡ m.setup
+    → IsAlong begun actor kinds before (i + 1) n reply
+along_more begun actor kinds before i m n answer reply d along within went sound setup =
+    let r : Stepped = at_machine answer m in
+    let s : Stepped = at_machine reply n in
+    let goes : s ≡ goes_on actor r (get_or kinds i d) = λ j. record { reply = went.answers.reply j; after = went.answers.after j } in
+    let room : room_at m (place_of begun.setup actor) ≤ room_at n (place_of begun.setup actor) + 1 = subst (λ (k : Setup). room_at m (place_of k actor) ≤ room_at n (place_of k actor) + 1) along.setup went.room in record {
+      sound = sound;
+      setup = setup ∙ along.setup;
+      room = omega (arith, along.room, room);
+      leads = row_more actor kinds i d r s within goes ∙ along.leads;
+    }
 
-  actor_here : HasActor m.setup actor
-  actor_here = subst (λ (k : Setup). HasActor k actor) (sym along.setup) has
+-- a kind of a row is one that may be asked for
+pub asked_here : (begun : Machine) (actor : Actor) (kinds : List Kind) (before : Reply) (i : ℕ) (m : Machine) (answer : Reply) (d : Kind) → IsAlong begun actor kinds before i m answer → i < length kinds
+    → AllByRecursion (IsAsked begun.setup) kinds → IsAsked m.setup (get_or kinds i d)
+asked_here begun actor kinds before i m answer d along within asked = subst (λ (k : Setup). IsAsked k (get_or kinds i d)) (sym along.setup) (asked_at (IsAsked begun.setup) kinds i d asked within)
 
-  kind_asked : IsAsked m.setup kind
-  kind_asked = subst (λ (k : Setup). IsAsked k kind) (sym along.setup) (asked_at (IsAsked begun.setup) kinds i d asked within)
+-- its actor is the row's
+pub actor_here : (begun : Machine) (actor : Actor) (kinds : List Kind) (before : Reply) (i : ℕ) (m : Machine) (answer : Reply) → IsAlong begun actor kinds before i m answer → HasActor begun.setup actor → HasActor m.setup actor
+actor_here begun actor kinds before i m answer along has = subst (λ (k : Setup). HasActor k actor) (sym along.setup) has
 
-  -- a kind that isn't next is passed over
-  pub along_past : same_due (due_for kind) (due_of (whole_of m) actor) ≡ false → IsAlong begun actor kinds before (i + 1) m answer
-  along_past test =
-      let r : Stepped = at_machine answer m in
-      let past : r ≡ goes_on actor r kind = sym (ap (λ (b : Bool). cond b (gone actor kind r (due_step (whole_of m) actor kind)) r) test) in record {
-        sound = along.sound;
-        setup = along.setup;
-        room = omega (arith, along.room);
-        leads = row_more actor kinds i d r r within past ∙ along.leads;
-      }
+-- what a step of a row answers and leaves is what the row goes on to
+went_on : (reply : Reply) (n : Machine) (r : Stepped) → Answers reply n r → at_machine reply n ≡ r
+went_on reply n r answers = λ j. record { reply = answers.reply j; after = answers.after j }
 
-  module _ (test : same_due (due_for kind) (due_of (whole_of m) actor) ≡ true) where
-    -- one that is next is made
-    pub along_made : (n : Machine) (reply : Reply) (o : Option Reply) → o ≡ told kind actor (whole_of m) answer → Goes (place_of m.setup actor) m reply n (due_step (whole_of m) actor kind)
-        → IsAlong begun actor kinds before (i + 1) n (unwrap_or o reply)
-    along_made n reply o is went =
-        let answers = went.answers in
-        let r : Stepped = at_machine answer m in
-        let due = sym (is_due (due_for kind) (due_of (whole_of m) actor) test) in
-        let made : at_machine (unwrap_or o reply) n ≡ gone actor kind r (due_step (whole_of m) actor kind) = λ j. record { reply = unwrap_or (is j) (answers.reply j); after = answers.after j } in
-        let goes : at_machine (unwrap_or o reply) n ≡ goes_on actor r kind = made ∙ sym (ap (λ (b : Bool). cond b (gone actor kind r (due_step (whole_of m) actor kind)) r) test) in
-        let room : room_at m (place_of begun.setup actor) ≤ room_at n (place_of begun.setup actor) + 1 = subst (λ (k : Setup). room_at m (place_of k actor) ≤ room_at n (place_of k actor) + 1) along.setup went.room in record {
-          sound = due_sound (whole_of m) along.sound actor kind actor_here kind_asked due actor refl (whole_of n) answers.after;
-          setup = due_setup (whole_of m) along.sound actor kind actor_here kind_asked due actor refl (whole_of n) answers.after ∙ along.setup;
-          room = omega (arith, along.room, room);
-          leads = row_more actor kinds i d r (at_machine (unwrap_or o reply) n) within goes ∙ along.leads;
-        }
+-- a look, an arm and a draw behind one another, of a client at rest, are the row of a draw
+pub take_goes : (w : Whole) (c d n : ℕ) (due : Due) (m m1 m2 m3 : Machine) (looked armed drawn : Reply) → due ≡ due_of w (Client c) → same_due due Rest ≡ true → whole_of m ≡ w
+    → Answers looked m1 (goes_on (Client c) (at_machine (OutOfTurn due) m) (Look d)) → Answers armed m2 (goes_on (Client c) (at_machine looked m1) (Arm n)) → Answers drawn m3 (goes_on (Client c) (at_machine armed m2) Draw)
+    → at_machine drawn m3 ≡ take_of w c d n
+take_goes w c d n due m m1 m2 m3 looked armed drawn is_due rests same look arm draw =
+    let out : Stepped = out_of_turn w (due_of w (Client c)) in
+    let begun : at_machine (OutOfTurn due) m ≡ out = λ j. record { reply = OutOfTurn (is_due j); after = same j } in
+    let on_look = went_on looked m1 (goes_on (Client c) (at_machine (OutOfTurn due) m) (Look d)) look ∙ ap (λ (r : Stepped). goes_on (Client c) r (Look d)) begun in
+    let on_arm = went_on armed m2 (goes_on (Client c) (at_machine looked m1) (Arm n)) arm ∙ ap (λ (r : Stepped). goes_on (Client c) r (Arm n)) on_look in
+    went_on drawn m3 (goes_on (Client c) (at_machine armed m2) Draw) draw ∙ ap (λ (r : Stepped). goes_on (Client c) r Draw) on_arm
+    ∙ sym (ap (λ (b : Bool). cond b (row (Client c) (take_kinds d n) out) out) (ap (λ (e : Due). same_due e Rest) (sym is_due) ∙ rests))

@@ -1,5 +1,5 @@
 -- Where a window and a batch go in the lists of a run.
-use Rattle.std.proofs.Common.{◌≡◌, ℕ, zero, suc, ◌-◌, ◌<◌, ◌≤◌, true, false, List, [], ◌∷◌, length, get_or, set, leb, cond, refl, ap, arith}
+use Rattle.std.proofs.Common.{◌≡◌, ℕ, zero, suc, ◌-◌, ◌<◌, ◌≤◌, true, false, List, [], ◌∷◌, length, get_or, set, leb, cond, ◌++◌, refl, sym, ap, ◌∙◌, arith}
 use Rattle.std.proofs.lemmas.Bool.Decides.{nat_tests}
 use Rattle.std.specs.List.Sorted.{IsNonDecreasingBy, IsPartitionPoint}
 use Rattle.std.specs.List.{insert}
@@ -54,3 +54,12 @@ at_end t xs d sorted most = (
       test_le (get_or xs k e).term t (omega (arith, least, ap (λ (b : Batch). b.term) (get_any xs (length xs - 1) d e (omega arith))))),
   (λ k e low high. absurd (omega arith)),
 )
+
+-- behind all others
+insert_end : (b : Batch) (xs : List Batch) → insert xs (length xs) b ≡ xs ++ b ∷ []
+insert_end b [] = refl
+insert_end b (x ∷ xs) = ap (λ (ys : List Batch). x ∷ ys) (insert_end b xs)
+
+-- a batch whose place is the end is put there
+pub place_end : (b : Batch) (xs : List Batch) (i : ℕ) → i ≡ length xs → IsPartitionPoint (λ (y : Batch). nat_le y.term b.term ≡ true) (λ (y : Batch). nat_le y.term b.term ≡ false) xs i → xs ++ b ∷ [] ≡ place b xs
+place_end b xs i end at = sym (insert_end b xs) ∙ ap (λ (j : ℕ). insert xs j b) (sym end) ∙ place_at b xs i (omega (arith, end)) at

@@ -37,6 +37,7 @@ pub enum Done {
 
 impl Done {
     /// The answer to a step that did this.
+    #[inline(always)]
     pub fn reply(self) -> Reply
         ensures value { result ≡ reply_of self }
     {

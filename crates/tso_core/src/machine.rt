@@ -34,6 +34,7 @@ pub struct Made {
 
 impl Machine {
     /// Makes room for `n` more steps of the seat at this place. Want of memory leaves the state.
+    #[inline(always)]
     pub fn reserve(&mut self, id: usize, n: usize) -> Result<(), NoMemory>
         requires inside { id < length self.old.seats.items }
         ensures whole { whole_of self.new ≡ whole_of self.old }
@@ -45,6 +46,7 @@ impl Machine {
 
     /// Makes the step of the seat at this place: the word is found and written, the seat learns of it,
     /// and the run keeps what was done.
+    #[inline(always)]
     pub fn make(&mut self, id: usize, step: WordStep) -> Made
         requires sound { IsSound (whole_of self.old) }
         requires may { MayMake (whole_of self.old) id step }
@@ -65,6 +67,7 @@ impl Machine {
 
     /// The actor's place among the seats. A store has none, and stands for the base, which makes no
     /// step.
+    #[inline(always)]
     pub fn place(&self, actor: Actor) -> usize
         ensures value { result ≡ place_of self.now.setup actor }
     {
@@ -76,6 +79,7 @@ impl Machine {
     }
 
     /// Where the driver stands.
+    #[inline(always)]
     pub fn turn(&self, driver: u8) -> Turn
         requires sound { IsSound (whole_of self.now) }
         requires driver { HasDriver self.now.setup driver }
@@ -85,6 +89,7 @@ impl Machine {
     }
 
     /// What is next for the actor.
+    #[inline(always)]
     pub fn due(&self, actor: Actor) -> Due
         requires sound { IsSound (whole_of self.now) }
         requires actor { HasActor self.now.setup actor }

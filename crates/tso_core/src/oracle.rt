@@ -133,7 +133,8 @@ impl Core {
     }
 
     /// A client asks a driver for `n` timestamps, 1 to 262,143: a look, an arm and a draw in a row,
-    /// as far as they come. `OutOfTurn` where it is not at rest.
+    /// as far as they come. `OutOfTurn` where it is not at rest. The row is written out kind by kind,
+    /// since most calls are draws, and a step that is known here takes less.
     pub fn take(&mut self, client: u8, driver: u8, n: u64) -> Result<Reply, NoMemory>
         requires client { HasClient self.old.setup client }
         requires driver { HasDriver self.old.setup driver }
@@ -144,8 +145,16 @@ impl Core {
         ensures sound { IsSound self.new }
         ensures setup { self.new.setup ≡ self.old.setup }
     {
-        let kinds = [Kind::Look { driver }, Kind::Arm { n }, Kind::Draw];
-        self.machine.call(Actor::Client(client), &kinds)
+        let actor = Actor::Client(client);
+        let due = self.machine.due(actor);
+        let refusal = Reply::OutOfTurn { expected: due };
+        if !due.is(Due::Rest) {
+            return Ok(refusal);
+        }
+        self.machine.reserve(self.machine.place(actor), 3)?;
+        let looked = self.machine.go(actor, Kind::Look { driver }, refusal);
+        let armed = self.machine.go(actor, Kind::Arm { n }, looked);
+        Ok(self.machine.go(actor, Kind::Draw, armed))
     }
 
     /// A client leaves a note of what it has seen for another client, or for itself. `OutOfTurn` where

@@ -70,6 +70,7 @@ pub enum Reply {
 
 impl Kind {
     /// The due at which this step comes.
+    #[inline(always)]
     pub fn due(self) -> Due
         ensures value { result ≡ due_for self }
     {
@@ -87,6 +88,7 @@ impl Kind {
 
 impl Due {
     /// Whether both are the same due.
+    #[inline(always)]
     pub fn is(self, other: Due) -> bool
         ensures value { result ≡ same_due self other }
     {

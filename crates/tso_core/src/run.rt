@@ -65,6 +65,7 @@ impl Run {
     }
 
     /// Makes room for `n` more windows and batches. Want of memory leaves both lists.
+    #[inline(always)]
     pub fn reserve(&mut self, n: usize) -> Result<(), NoMemory>
         ensures windows { self.new.windows ≡ self.old.windows }
         ensures batches { self.new.batches ≡ self.old.batches }
@@ -81,6 +82,7 @@ impl Run {
     }
 
     /// Keeps what a step did.
+    #[inline(always)]
     pub fn keep(&mut self, done: Done)
         requires sorted { IsNonDecreasingBy (λ (b : Batch). b.term) self.old.batches }
         requires room { 0 < self.old.spare }
@@ -109,7 +111,8 @@ fn lengthen(windows: &mut [Window], hi: u64)
 }
 
 // Puts a batch behind those of its term and of lower ones. Mostly that is the end.
-#[tactic(auto, using(crate::proofs::Placing::place_at))]
+#[tactic(auto, using(crate::proofs::Placing::place_at, crate::proofs::Placing::place_end))]
+#[inline(always)]
 fn insert(batches: &mut Vec<Batch>, batch: Batch)
     requires sorted { IsNonDecreasingBy (λ (b : Batch). b.term) batches.old.items }
     requires room { vec_len batches.old < vec_capacity batches.old }
@@ -118,6 +121,10 @@ fn insert(batches: &mut Vec<Batch>, batch: Batch)
     ensures capacity { vec_capacity batches.old ≤ vec_capacity batches.new }
 {
     let at = place_of(batches, batch.term);
+    if at == batches.len() {
+        batches.push_reserved(batch);
+        return;
+    }
     match batches.insert(at, batch) {
         Ok(()) => {}
         Err(_) => unreachable!(),
@@ -125,6 +132,7 @@ fn insert(batches: &mut Vec<Batch>, batch: Batch)
 }
 
 // The first place behind all batches of this term and of lower ones.
+#[inline(always)]
 fn place_of(batches: &[Batch], term: u64) -> usize
     requires sorted { IsNonDecreasingBy (λ (b : Batch). b.term) batches.now }
     ensures bound { result ≤ length batches.now }

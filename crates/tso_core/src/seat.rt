@@ -21,7 +21,7 @@ use tso_model::{
 };
 
 // Room is taken for so many more entries than are asked for, so that it is seldom taken.
-const SPARE_AHEAD: usize = 8;
+const SPARE_AHEAD: usize = 64;
 
 /// A view in memory. Its lists have room before a step is made, so a step takes no memory. Most
 /// of the lists are the run's evidence and are read by no step.
@@ -135,6 +135,7 @@ impl Seat {
     }
 
     /// Makes room for `n` more entries in each list. Want of memory leaves the view.
+    #[inline(always)]
     pub fn reserve(&mut self, n: usize) -> Result<(), NoMemory>
         ensures view { self.new.view ≡ self.old.view }
         ensures ok { OnOk result (n ≤ self.new.spare) }
@@ -191,6 +192,7 @@ impl Seat {
     }
 
     /// What is next for it as a client.
+    #[inline(always)]
     pub fn due(&self) -> Due
         ensures value { result ≡ client_due self.now.view }
     {
@@ -201,6 +203,7 @@ impl Seat {
     }
 
     /// The word that this step touches.
+    #[inline(always)]
     pub fn place(&self, step: WordStep) -> usize
         ensures value { result ≡ word_of step self.now.view }
     {
@@ -215,6 +218,7 @@ impl Seat {
     }
 
     /// What this step makes of the word that it finds.
+    #[inline(always)]
     pub fn written(&self, step: WordStep, found: u64) -> u64
         requires suits { Suits step self.now.view }
         ensures value { result ≡ word_after step self.now.view found }
@@ -234,6 +238,7 @@ impl Seat {
     }
 
     /// Makes the step, whose word was found to be this, and says what it did.
+    #[inline(always)]
     pub fn make(&mut self, step: WordStep, found: u64) -> Done
         requires suits { Suits step self.old.view }
         requires found { found < 2 ^ 63 + 2 ^ 26 }
@@ -257,6 +262,7 @@ impl Seat {
     }
 
     // The limit in hand, or one of no driver.
+    #[inline(always)]
     fn in_hand(&self) -> Limit
         ensures value { result ≡ hand self.now.view }
     {

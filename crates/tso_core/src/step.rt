@@ -1,12 +1,12 @@
 // Single steps, each where it is its actor's next, and whole calls: the steps of an actor in a row.
-ghost use Rattle.std.specs.Prelude.{◌≡◌, IfOk, OnOk, OnErr};
+ghost use Rattle.std.specs.Prelude.{◌≡◌, ◌<◌, IfOk, OnOk, OnErr};
 ghost use Rattle.std.specs.List.{AllByRecursion};
 ghost use Rattle.pd_types.specs.declared.oracle.Actor.TheVariants.{Driver};
 ghost use Rattle.tso_core.specs.declared.reply.Reply.TheVariants.{OutOfTurn};
 ghost use Rattle.tso_core.specs.Asked.{HasActor, IsAsked};
 ghost use Rattle.tso_core.specs.Due.{due_for};
-ghost use Rattle.tso_core.specs.Machine.{whole_of, place_of, IsAt, DriverAt, Goes};
-ghost use Rattle.tso_core.specs.Rows.{call_of, told, won};
+ghost use Rattle.tso_core.specs.Machine.{whole_of, place_of, room_at, IsAt, DriverAt, Goes};
+ghost use Rattle.tso_core.specs.Rows.{call_of, told, won, goes_on};
 ghost use Rattle.tso_core.specs.Sound.{IsSound, HasDriver};
 ghost use Rattle.tso_core.specs.Steps.{due_step};
 
@@ -35,16 +35,32 @@ impl Machine {
         }
         self.reserve(self.place(actor), kinds.len())?;
         for kind in kinds {
-            if kind.due().is(self.due(actor)) {
-                let told = self.told(actor, *kind, answer);
-                let reply = self.step(actor, *kind);
-                answer = told.unwrap_or(reply);
-            }
+            answer = self.go(actor, *kind, answer);
         }
         Ok(answer)
     }
 
+    /// One kind of a row, behind the answer before it: its step is made where it is next.
+    #[inline(always)]
+    pub fn go(&mut self, actor: Actor, kind: Kind, before: Reply) -> Reply
+        requires sound { IsSound (whole_of self.old) }
+        requires actor { HasActor self.old.setup actor }
+        requires kind { IsAsked self.old.setup kind }
+        requires room { 0 < room_at self.old (place_of self.old.setup actor) }
+        ensures goes { Goes (place_of self.old.setup actor) self.old result self.new (goes_on actor (record { reply = before; after = whole_of self.old }) kind) }
+        ensures sound { IsSound (whole_of self.new) }
+        ensures setup { self.new.setup ≡ self.old.setup }
+    {
+        if !kind.due().is(self.due(actor)) {
+            return before;
+        }
+        let told = self.told(actor, kind, before);
+        let reply = self.step(actor, kind);
+        told.unwrap_or(reply)
+    }
+
     // What a row answers in place of the step's own answer.
+    #[inline(always)]
     fn told(&self, actor: Actor, kind: Kind, before: Reply) -> Option<Reply>
         requires sound { IsSound (whole_of self.now) }
         requires actor { HasActor self.now.setup actor }
@@ -81,6 +97,7 @@ impl Machine {
     }
 
     /// The step of an actor for which one of this kind is next.
+    #[inline(always)]
     pub fn step(&mut self, actor: Actor, kind: Kind) -> Reply
         requires at { IsAt (due_for kind) actor self.old }
         requires kind { IsAsked self.old.setup kind }

@@ -13,6 +13,7 @@ use pd_types::{Batch, LOGICAL, Seen};
 use tso_model::{Added, Grant, Limit, Look, Refusal, is_passing};
 
 impl Seat {
+    #[inline(always)]
     pub(super) fn look(&mut self, driver: u8, word: u64) -> Done
         requires room { 0 < self.old.spare }
         ensures done { result ≡ done_of (LoadLimit driver) word self.old.view }
@@ -39,6 +40,7 @@ impl Seat {
         Done::Looked { term, hi }
     }
 
+    #[inline(always)]
     pub(super) fn arm(&mut self, n: u64, at: u64) -> Done
         requires fits { HandFits self.old.view }
         requires n { n < 262144 }
@@ -68,6 +70,7 @@ impl Seat {
 
     // The count is added whether it fits or not.
     #[tactic(auto, using(crate::proofs::Seats::sums_snoc))]
+    #[inline(always)]
     pub(super) fn draw(&mut self, at: u64) -> Done
         requires fits { HandFits self.old.view }
         requires found { at < 2 ^ 63 + 2 ^ 26 }

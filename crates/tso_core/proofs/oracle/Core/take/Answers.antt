@@ -1,16 +1,18 @@
-use Rattle.std.proofs.Common.{◌≡◌, subst, ap, ◌∙◌}
-use Rattle.std.specs.Prelude.{IfOk, OnOk}
-use Rattle.tso_core.specs.Machine.{whole_of}
-use Rattle.tso_core.specs.Rows.{take_of}
+use Rattle.std.proofs.Common.{ap, sym, ◌∙◌}
+use Rattle.pd_types.specs.declared.oracle.Actor.TheVariants.{Client}
+use Rattle.tso_core.specs.Steps.{Stepped, due_of}
 use Rattle.tso_core.specs.Whole.{Whole}
-use Rattle.tso_core.specs.declared.reply.Reply.{Reply}
+use Rattle.tso_core.proofs.Going.{take_goes}
 use Rattle.tso_core.proofs.oracle.Core.take.Goals as goal
 
 pub returns-clause-reply : goal.returns-clause-reply
-returns-clause-reply c = subst (λ (w : Whole). IfOk c.call.result (λ (reply : Reply). reply ≡ (take_of w c.args.client c.args.driver c.args.n).reply)) c.self.view_is c.call.ensures.reply
+returns-clause-reply c =
+    ap (λ (r : Stepped). r.reply) (take_goes c.args.self.now c.args.client c.args.driver c.args.n c.due-due.result c.reserve.new.self c.go-looked.new.self c.go-armed.new.self c.go.new.self c.go-looked.result c.go-armed.result c.go.result
+    (c.due-due.ensures.value ∙ ap (λ (w : Whole). due_of w (Client c.args.client)) c.self.view_is) (sym c.is.ensures.value ∙ c.if-not-is.false) (c.reserve.ensures.whole ∙ c.self.view_is)
+    c.go-looked.ensures.goes.answers c.go-armed.ensures.goes.answers c.go.ensures.goes.answers)
 
 pub returns-clause-after : goal.returns-clause-after
-returns-clause-after c = subst (λ (w : Whole). OnOk c.call.result (whole_of c.call.new.self ≡ (take_of w c.args.client c.args.driver c.args.n).after)) c.self.view_is c.call.ensures.after
-
-pub returns-clause-setup : goal.returns-clause-setup
-returns-clause-setup c = c.call.ensures.setup ∙ ap (λ (w : Whole). w.setup) c.self.view_is
+returns-clause-after c =
+    ap (λ (r : Stepped). r.after) (take_goes c.args.self.now c.args.client c.args.driver c.args.n c.due-due.result c.reserve.new.self c.go-looked.new.self c.go-armed.new.self c.go.new.self c.go-looked.result c.go-armed.result c.go.result
+    (c.due-due.ensures.value ∙ ap (λ (w : Whole). due_of w (Client c.args.client)) c.self.view_is) (sym c.is.ensures.value ∙ c.if-not-is.false) (c.reserve.ensures.whole ∙ c.self.view_is)
+    c.go-looked.ensures.goes.answers c.go-armed.ensures.goes.answers c.go.ensures.goes.answers)
