@@ -30,6 +30,7 @@ pub mod Visits
 pub mod Refines
 pub mod Places
 pub mod Ranged
+pub mod Accepting
 pub mod Gates
 pub mod Reported
 pub mod Telling
