@@ -5,7 +5,7 @@ use Rattle.pd_script.specs.Lawful.{IsLawful}
 use Rattle.pd_script.specs.declared.act.Act.{Act}
 use Rattle.sched_api.specs.Benches.{Seats}
 use Rattle.pd_cluster.specs.Clusters.{HoweverTheyEnd, state_of}
-use Rattle.pd_cluster.specs.Replay.{SaysEnoughFor, State, Turned, line_step, oracle_line, request_of}
+use Rattle.pd_cluster.specs.Replay.{SaysEnoughFor, State, Turned, asked_line, line_step, oracle_line, request_of}
 use Rattle.pd_cluster.proofs.Benching.{goes_same}
 use Rattle.pd_cluster.proofs.Reaching.{asks_none, is_oracles}
 use Rattle.pd_cluster.proofs.Serving.{always}
@@ -17,10 +17,19 @@ ask-requires-clause-first g c =
     omega (arith, lawful.0.low)
 
 pub returns-in-Ask-clause-said : goal.returns-in-Ask-clause-said
-returns-in-Ask-clause-said g c = rw (c.in-Ask.is) (rw (c.into_value.ensures.value) at c.ask.ensures.said)
+returns-in-Ask-clause-said g c =
+    let old : List Seats = map g.B.Seated.seats c.args.benches.now.items in
+    let new : List Seats = map g.B.Seated.seats c.ask.new.benches.items in
+    rw (c.in-Ask.is)
+    (subst (λ (request : Request). IfOk c.ask.result (λ said. HoweverTheyEnd new (λ ends. said ≡ (asked_line (state_of c.args.self.now old ends) c.args.line.number c.in-Ask.driver request).said))) c.into_value.ensures.value c.ask.ensures.said)
 
 pub returns-in-Ask-clause-after : goal.returns-in-Ask-clause-after
-returns-in-Ask-clause-after g c = rw (c.in-Ask.is) (rw (c.into_value.ensures.value) at c.ask.ensures.after)
+returns-in-Ask-clause-after g c =
+    let old : List Seats = map g.B.Seated.seats c.args.benches.now.items in
+    let new : List Seats = map g.B.Seated.seats c.ask.new.benches.items in
+    rw (c.in-Ask.is)
+    (subst (λ (request : Request). OnOk c.ask.result (HoweverTheyEnd new (λ ends. state_of c.ask.new.self new ends ≡ (asked_line (state_of c.args.self.now old ends) c.args.line.number c.in-Ask.driver request).after))) c.into_value.ensures.value
+    c.ask.ensures.after)
 
 pub returns-in-Ask-clause-turns : goal.returns-in-Ask-clause-turns
 returns-in-Ask-clause-turns g c = rw (c.in-Ask.is) (rw (c.into_value.ensures.value) at c.ask.ensures.turns)
