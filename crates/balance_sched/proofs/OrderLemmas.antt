@@ -1,29 +1,18 @@
 -- The order of moves, and what was found along it.
-use Rattle.std.proofs.Common.{◌≡◌, ◌∙◌, sym, refl, subst, ℕ, ◌≤◌, Bool, true, false, arith, nat_lt, Option, Some, None, inl, inr}
+use Rattle.std.proofs.Common.{◌≡◌, ◌∙◌, sym, refl, subst, ℕ, ◌≤◌, Bool, true, false, arith, Option, Some, None, inl, inr}
 use Rattle.std.proofs.lemmas.Bool.Decides.{nat_tests}
 use Rattle.std.proofs.lemmas.Bool.{true≢false}
 use Rattle.pd_types.specs.declared.region.RegionBeat.{RegionBeat}
 use Rattle.balance_sched.specs.declared.moves.Kind.{Kind}
 use Rattle.balance_sched.specs.declared.moves.Move.{Move}
 use Rattle.balance_sched.specs.Tables.{Tables}
-use Rattle.balance_sched.specs.Moves.{goes_before, lesser_then}
+use Rattle.balance_sched.specs.Moves.{goes_before}
+use Rattle.pd_types.proofs.Numbers.{less_on, less_self, lesser_on, lesser_self}
 use Rattle.balance_sched.specs.Search.{Beats, Follows, Loses, can_win}
 
 pub false_by : (b : Bool) → (b ≡ true → ⊥) → b ≡ false
 false_by true h = absurd (h refl)
 false_by false h = refl
-
-lesser_on : (a b c : ℕ) (p q r : Bool) → (p ≡ true → q ≡ true → r ≡ true) → lesser_then a b p ≡ true → lesser_then b c q ≡ true → lesser_then a c r ≡ true
-lesser_on a b c p q r rest first second = grind (arith, nat_tests)
-
-lesser_self : (a : ℕ) (p : Bool) → p ≡ false → lesser_then a a p ≡ false
-lesser_self a p h = grind (arith, nat_tests)
-
-less_on : (a b c : ℕ) → nat_lt a b ≡ true → nat_lt b c ≡ true → nat_lt a c ≡ true
-less_on a b c h k = grind (arith, nat_tests)
-
-less_self : (a : ℕ) → nat_lt a a ≡ false
-less_self a = grind (arith, nat_tests)
 
 pub goes_on : (a b c : Move) → goes_before a b ≡ true → goes_before b c ≡ true → goes_before a c ≡ true
 goes_on a b c first second =

@@ -1,5 +1,6 @@
 -- Admissible moves, and which of them is proposed (PD documentation, "Scheduling"; the tests and the ties are our own choice).
-use Rattle.std.specs.Prelude.{◌≡◌, ℕ, ◌+◌, ◌≤◌, nat_lt, nat_eq, Bool, true, false, ◌&&◌, ◌||◌, not, if◌then◌else◌, ◌==◌, length, map, Option, Some, None, Contains}
+use Rattle.std.specs.Prelude.{◌≡◌, ℕ, ◌+◌, ◌≤◌, nat_lt, Bool, true, false, ◌&&◌, not, if◌then◌else◌, ◌==◌, length, map, Option, Some, None, Contains}
+use Rattle.pd_types.specs.Numbers.{lesser_then}
 use Rattle.pd_types.specs.declared.proposal.Proposal.{Proposal}
 use Rattle.pd_types.specs.declared.proposal.Proposal.TheVariants.{MovePeer, MoveLeader}
 use Rattle.pd_types.specs.declared.region.Peer.{Peer}
@@ -84,10 +85,6 @@ pub record IsAdmissible (kind : Kind) (tables : Tables) (move : Move) : Type 0 w
   pub beat : RegionBeat
   pub held : Contains tables.held beat
   pub moves : IsMoveOf kind tables beat move
-
--- the lesser number goes first; of equal ones the rest decides
-abbrev pub lesser_then : ℕ → ℕ → Bool → Bool
-lesser_then one other rest = nat_lt one other || (nat_eq one other && rest)
 
 -- the greatest difference goes first, then the least region, the least source, the least target
 abbrev pub goes_before : Move → Move → Bool

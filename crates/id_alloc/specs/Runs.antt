@@ -3,9 +3,9 @@ use Rattle.std.specs.Prelude.{◌≡◌, ◌⊎◌, ℕ, false, ◌&&◌, List, 
 use Rattle.meta_store.specs.declared.record.MetaCall.TheVariants as calls
 use Rattle.meta_store.specs.declared.record.MetaEntry.{MetaEntry}
 use Rattle.meta_store.specs.declared.record.MetaVerdict.TheVariants as verdicts
-use Rattle.meta_store.specs.Doors.{said_of}
+use Rattle.meta_store.specs.Doors.{said_of, Spoken}
 use Rattle.meta_store.specs.Past.{entry_of, is_accepted, is_of, records_of}
-use Rattle.id_alloc.specs.Windows.{Takes, Talk, Window, id_key, window_in}
+use Rattle.id_alloc.specs.Windows.{Takes, Window, id_key, window_in}
 
 -- the entries of the metadata, the latest first; the windows that were made; and the ids that were taken, the latest first
 pub record State : Type 0 where
@@ -35,7 +35,7 @@ pub record Passes (old new : State) : Type 0 where
   pub ids : new.ids ≡ old.ids
 
 -- what the metadata as a door said and told, by its entries before and after
-abbrev pub talk_of : List MetaEntry → List MetaEntry → Talk
+abbrev pub talk_of : List MetaEntry → List MetaEntry → Spoken
 talk_of old new = record { said_old = said_of old; said_new = said_of new; told_old = Some (reverse old); told_new = Some (reverse new) }
 
 -- one of the windows takes an id, as `next` does

@@ -3,14 +3,12 @@ use Rattle.std.specs.Prelude.{◌≡◌, ◌⊎◌, ℕ, ◌+◌, ◌^◌, nat_e
 use Rattle.std.specs.Fmt.{decimal}
 use Rattle.pd_lines.specs.Numeral.{number_of}
 use Rattle.meta_store.specs.declared.record.Cell.{Cell}
-use Rattle.meta_store.specs.declared.record.MetaAnswer.{MetaAnswer}
 use Rattle.meta_store.specs.declared.record.MetaCall.{MetaCall}
 use Rattle.meta_store.specs.declared.record.MetaCall.TheVariants as calls
-use Rattle.meta_store.specs.declared.record.MetaEntry.{MetaEntry}
 use Rattle.meta_store.specs.declared.record.MetaVerdict.{MetaVerdict}
 use Rattle.meta_store.specs.declared.record.MetaVerdict.TheVariants as verdicts
 use Rattle.meta_store.specs.Cells.{cell_at, revision_in}
-use Rattle.meta_store.specs.Doors.{answer_of, told_more}
+use Rattle.meta_store.specs.Doors.{answer_of, told_more, Spoken}
 use Rattle.id_alloc.specs.declared.fault.IdFault.{IdFault}
 use Rattle.id_alloc.specs.declared.fault.IdFault.TheVariants as faults
 
@@ -71,43 +69,36 @@ pub record TakesSaved (old new : Window) (revision id : ℕ) : Type 0 where
   pub next : id ≡ old.end + 1
   pub now : new ≡ with_saved old revision
 
--- what a door said and told, before a call and after it
-pub record Talk : Type 0 where
-  pub said_old : List MetaAnswer
-  pub said_new : List MetaAnswer
-  pub told_old : Option (List MetaEntry)
-  pub told_new : Option (List MetaEntry)
-
 -- nothing was asked
-pub record IsQuiet (talk : Talk) : Type 0 where
+pub record IsQuiet (talk : Spoken) : Type 0 where
   pub said : talk.said_new ≡ talk.said_old
   pub told : talk.told_new ≡ talk.told_old
 
 -- one call was made, and heard this verdict
-pub record Hears (talk : Talk) (driver : ℕ) (call : MetaCall) (verdict : MetaVerdict) : Type 0 where
+pub record Hears (talk : Spoken) (driver : ℕ) (call : MetaCall) (verdict : MetaVerdict) : Type 0 where
   pub said : talk.said_new ≡ talk.said_old ++ answer_of call verdict [] ∷ []
   pub told : talk.told_new ≡ told_more talk.told_old driver call
 
 -- an id is taken: one that was left, and nothing is asked; or the first of a window that is saved first
-abbrev pub Takes : Window → Window → Talk → ℕ → ℕ → ℕ → Type 0
+abbrev pub Takes : Window → Window → Spoken → ℕ → ℕ → ℕ → Type 0
 Takes old new talk driver term id =
     (TakesLeft old new id × IsQuiet talk) ⊎
     ((revision : ℕ) × TakesSaved old new revision id × Hears talk driver (id_call term old) (verdicts.Accepted revision))
 
 -- the next window was asked for, and the door answered this
-pub record IsRefused (old : Window) (talk : Talk) (driver term : ℕ) (verdict : MetaVerdict) : Type 0 where
+pub record IsRefused (old : Window) (talk : Spoken) (driver term : ℕ) (verdict : MetaVerdict) : Type 0 where
   pub used : is_used_up old ≡ true
   pub room : is_spent old ≡ false
   pub heard : Hears talk driver (id_call term old) verdict
 
 -- no window is left below 2^63, and nothing was asked
-pub record IsSpent (old : Window) (talk : Talk) : Type 0 where
+pub record IsSpent (old : Window) (talk : Spoken) : Type 0 where
   pub used : is_used_up old ≡ true
   pub full : is_spent old ≡ true
   pub quiet : IsQuiet talk
 
 -- why no id is taken: the door's own answer in this call, or the number; want of memory asks nothing that is answered
-abbrev pub Refuses : Window → Talk → ℕ → ℕ → IdFault → Type 0
+abbrev pub Refuses : Window → Spoken → ℕ → ℕ → IdFault → Type 0
 Refuses old talk driver term (faults.OldTerm fence) = IsRefused old talk driver term (verdicts.OldTerm fence)
 Refuses old talk driver term faults.Spent = IsSpent old talk
 Refuses old talk driver term (faults.Conflict found) = IsRefused old talk driver term (verdicts.Conflict found)

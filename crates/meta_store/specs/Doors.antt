@@ -27,6 +27,13 @@ place_of driver turn lent = record { driver = driver; turn = turn; lent = lent }
 abbrev pub Serves : Place → ℕ → Type 0
 Serves place driver = (place.driver ≡ None) ⊎ (place.driver ≡ Some driver)
 
+-- what a door said and told, before calls and after them
+pub record Spoken : Type 0 where
+  pub said_old : List MetaAnswer
+  pub said_new : List MetaAnswer
+  pub told_old : Option (List MetaEntry)
+  pub told_new : Option (List MetaEntry)
+
 -- an answer, by its parts
 abbrev pub answer_of : MetaCall → MetaVerdict → List Cell → MetaAnswer
 answer_of call verdict cells = record { call = call; verdict = verdict; cells = cells }

@@ -3,6 +3,7 @@ pub mod Changes
 pub mod Charging
 pub mod Counting
 pub mod Life
+pub mod StateText
 pub mod Table
 pub mod Told
 pub mod Turn

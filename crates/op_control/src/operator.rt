@@ -1,5 +1,6 @@
 ghost use Rattle.std.specs.Prelude.{◌≡◌, ◌↔◌, IsTrue};
 ghost use Rattle.op_control.specs.Life.{is_active};
+ghost use Rattle.op_control.specs.StateText.{op_state_text};
 
 use pd_types::{Epoch, Steps, Text};
 
@@ -58,6 +59,21 @@ impl OpState {
             OpState::Created => true,
             OpState::Started => true,
             _ => false,
+        }
+    }
+
+    /// Its name.
+    pub fn name(self) -> &'static str
+        ensures value { result.now ≡ op_state_text self }
+    {
+        match self {
+            OpState::Created => "Created",
+            OpState::Started => "Started",
+            OpState::Success => "Success",
+            OpState::Canceled => "Canceled",
+            OpState::Replaced => "Replaced",
+            OpState::Expired => "Expired",
+            OpState::Timeout => "Timeout",
         }
     }
 }

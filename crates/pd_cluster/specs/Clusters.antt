@@ -1,9 +1,9 @@
 -- What the replay in memory means.
 use Rattle.std.specs.Prelude.{◌≡◌, ◌<◌, ◌+◌, ℕ, List, get_or, length, map, reverse, slice_set, Some, false, All}
 use Rattle.pd_types.specs.declared.request.Request.{Request}
-use Rattle.meta_store.specs.Doors.{said_of}
+use Rattle.meta_store.specs.Doors.{said_of, Spoken}
 use Rattle.pd_script.specs.Scripts.{asker}
-use Rattle.pd_state.specs.Clusters.{ClusterValue, Served, Spoken}
+use Rattle.pd_state.specs.Clusters.{ClusterValue, Served}
 use Rattle.pd_state.specs.declared.reply.Reply.{Reply}
 use Rattle.pd_state.specs.declared.entry.Entry.{Entry}
 use Rattle.pd_cluster.specs.declared.replay.Replay.{Replay}

@@ -5,6 +5,7 @@ use Rattle.std.specs.Io.KnownBytes.{Appends, Consumes, IsAtEnd, Keeps}
 use Rattle.pd_lines.specs.Input.{TakesFew}
 use Rattle.pd_lines.specs.Output.{WritesPrefix}
 use Rattle.pd_types.specs.Timestamp.{timestamp, physical, logical}
+use Rattle.pd_types.specs.declared.stamp.TheConstants.{LOGICAL}
 use Rattle.tso_laws.specs.Laws.{AreBounded}
 use Rattle.pd_script.specs.Numbering.{reason_number}
 use Rattle.pd_script.specs.Scripts.{script_of}
@@ -17,6 +18,7 @@ use Rattle.pd_script.specs.declared.script.Mode.TheVariants.{Replay as ByLine, R
 use Rattle.pd_script.specs.declared.script.Script.{Script}
 use Rattle.pd_script.specs.declared.act.Line.{Line}
 use Rattle.pd_cluster.specs.Answers.{Answer, answers_text}
+use Rattle.pd_cluster.specs.declared.top.TheConstants.{MAX_BYTES}
 use Rattle.pd_cluster.specs.History.{IsSafe, windows_of}
 use Rattle.pd_cluster.specs.Replay.{State, TakeTurns, answers_of, line_step, start, state_after}
 use Rattle.pd_cluster.specs.RunOutcome.{AreLost, RunsHeeded, RunsSafeSteps, RunsSafely, TellsRun}
@@ -46,7 +48,7 @@ tso_outcome timestamp = record { status = Done; text = codes "physical " ++ deci
 
 -- the text tells the parts of which the timestamp is made
 abbrev pub TellsParts : ℕ → List ℕ → Type 0
-TellsParts n text = (p l : ℕ) → l < 262144 → n ≡ timestamp p l → text ≡ codes "physical " ++ decimal p ++ codes " logical " ++ decimal l ++ codes "\n"
+TellsParts n text = (p l : ℕ) → l < LOGICAL → n ≡ timestamp p l → text ≡ codes "physical " ++ decimal p ++ codes " logical " ++ decimal l ++ codes "\n"
 
 -- the word for what there is too much of
 abbrev pub limited_text : Limited → List ℕ
@@ -74,7 +76,7 @@ script_outcome benches (Err refusal) = refusal_outcome refusal
 
 -- the answer of `replay` to the text that was read
 abbrev pub replay_outcome : Benches → List ℕ → Outcome
-replay_outcome benches text = if nat_lt 16777216 (length text) then limit_bytes else script_outcome benches (script_of ByLine text)
+replay_outcome benches text = if nat_lt MAX_BYTES (length text) then limit_bytes else script_outcome benches (script_of ByLine text)
 
 -- an outcome of `run` over a script and these benches is the text of any lawful run of it over them; over a text that is none it is the refusal
 abbrev pub IsScriptRun : Benches → Result Script ScriptRefusal → Outcome → Type 0
@@ -89,7 +91,7 @@ IsRunUnless benches false read outcome = IsScriptRun benches read outcome
 -- a lawful outcome of a command over the text that it read
 abbrev pub IsOutcome : Benches → Command → List ℕ → Outcome → Type 0
 IsOutcome benches Replay text outcome = outcome ≡ replay_outcome benches text
-IsOutcome benches Run text outcome = IsRunUnless benches (nat_lt 16777216 (length text)) (script_of OnThreads text) outcome
+IsOutcome benches Run text outcome = IsRunUnless benches (nat_lt MAX_BYTES (length text)) (script_of OnThreads text) outcome
 IsOutcome benches (Tso timestamp) text outcome = outcome ≡ tso_outcome timestamp
 
 -- Before and after each line, each cursor stands at most 64 milliseconds past the saved end, however many draws were refused
@@ -127,8 +129,8 @@ AreHeededUnless benches mode false read = AreHeededIn benches mode read
 
 -- the same of the text that a command read; `tso` asks no bench
 abbrev pub AreHeededBy : Benches → Command → List ℕ → Type 0
-AreHeededBy benches Replay text = AreHeededUnless benches ByLine (nat_lt 16777216 (length text)) (script_of ByLine text)
-AreHeededBy benches Run text = AreHeededUnless benches OnThreads (nat_lt 16777216 (length text)) (script_of OnThreads text)
+AreHeededBy benches Replay text = AreHeededUnless benches ByLine (nat_lt MAX_BYTES (length text)) (script_of ByLine text)
+AreHeededBy benches Run text = AreHeededUnless benches OnThreads (nat_lt MAX_BYTES (length text)) (script_of OnThreads text)
 AreHeededBy benches (Tso timestamp) text = benches.new ≡ benches.old
 
 -- What is left of the benches where a command wants memory for its answer: `run` lent none, or has lost them, and `tso` asked none; of `replay` nothing is said
@@ -146,7 +148,7 @@ SafeOutcome (Tso timestamp) text = Unit {0}
 -- this text was taken, and it is the whole, or longer than the limit
 pub record Takes (old new : Option (List ℕ)) (text : List ℕ) : Type 0 where
   pub taken : Consumes old new text
-  pub whole : (16777216 < length text) ⊎ IsAtEnd new
+  pub whole : (MAX_BYTES < length text) ⊎ IsAtEnd new
 
 -- what a command takes of the source
 abbrev pub Reads : Command → Option (List ℕ) → Option (List ℕ) → List ℕ → Type 0
@@ -211,7 +213,7 @@ PrintsUnless Says false read Writes = Prints Says read Writes
 pub record IsPrinted (mode : Mode) (Says : Script → (List ℕ → Type 0) → Type 0) (left_old left_new : Option (List ℕ)) (Writes : List ℕ → Type 0) : Type 0 where
   pub text : List ℕ
   pub taken : Takes left_old left_new text
-  pub printed : PrintsUnless Says (nat_lt 16777216 (length text)) (script_of mode text) Writes
+  pub printed : PrintsUnless Says (nat_lt MAX_BYTES (length text)) (script_of mode text) Writes
 
 -- The same by status: printed whole, or cut to a prefix by a fault of the sink or want of memory; nothing was printed after a failed
 -- read, or where memory was wanting before that
@@ -248,8 +250,8 @@ IsHeededBy benches (Tso timestamp) status left_old left_new held_old held_new = 
 
 -- a read that failed took no more than the limit; `tso` reads nothing, so that none fails
 abbrev pub IsUnread : Command → Option (List ℕ) → Option (List ℕ) → Type 0
-IsUnread Replay old new = TakesFew old new 16777216
-IsUnread Run old new = TakesFew old new 16777216
+IsUnread Replay old new = TakesFew old new MAX_BYTES
+IsUnread Run old new = TakesFew old new MAX_BYTES
 IsUnread (Tso timestamp) old new = ⊥
 
 -- how a run of a command may end
@@ -260,6 +262,6 @@ Ends benches command status left_old left_new held_old held_new = Answers benche
 
 -- what a command asks of the source, however it ends: `replay` and `run` at most the limit and one piece, `tso` nothing
 abbrev pub Asks : Command → Option (List ℕ) → Option (List ℕ) → Type 0
-Asks Replay old new = TakesFew old new (16777216 + 4096)
-Asks Run old new = TakesFew old new (16777216 + 4096)
+Asks Replay old new = TakesFew old new (MAX_BYTES + 4096)
+Asks Run old new = TakesFew old new (MAX_BYTES + 4096)
 Asks (Tso timestamp) old new = Keeps old new

@@ -133,7 +133,7 @@ fn script_response<B: Seated>(
     text: &[u8],
     benches: &mut Vec<B>,
 ) -> Result<Response, NoMemory>
-    requires { length text.now ≤ 16777216 }
+    requires { length text.now ≤ MAX_BYTES }
     ensures gives { IfOk result (Gives (script_outcome (record { old = map B.seats benches.old.items; new = map B.seats benches.new.items }) (script_of ByLine text.now))) }
     ensures heeded { OnOk result (AreHeededIn (record { old = map B.seats benches.old.items; new = map B.seats benches.new.items }) ByLine (script_of ByLine text.now)) }
     ensures settled { IfOk result (λ r. IsFinal r.status) }
@@ -176,7 +176,7 @@ fn threads_response<R: Threads + Wait + Sync, B: Seated + Drop + Send, G: Gate +
     benches: &mut Vec<B>,
     gate: &G,
 ) -> Result<Response, NoMemory>
-    requires { length text.now ≤ 16777216 }
+    requires { length text.now ≤ MAX_BYTES }
     ensures answered { IfOk result (λ r. IsScriptRun (record { old = map B.seats benches.old.items; new = map B.seats benches.new.items }) (script_of OnThreads text.now) (outcome_of r)) }
     ensures heeded { OnOk result (AreHeededIn (record { old = map B.seats benches.old.items; new = map B.seats benches.new.items }) OnThreads (script_of OnThreads text.now)) }
     ensures lost { OnErr result (AreLost (record { old = map B.seats benches.old.items; new = map B.seats benches.new.items })) }
@@ -203,7 +203,7 @@ fn text_response<R: Threads + Wait + Sync, B: Seated + Drop + Send, G: Gate + Sy
     benches: &mut Vec<B>,
     gate: &G,
 ) -> Result<Response, NoMemory>
-    requires { length text.now ≤ 16777216 }
+    requires { length text.now ≤ MAX_BYTES }
     ensures answered { IfOk result (λ r. IsOutcome (record { old = map B.seats benches.old.items; new = map B.seats benches.new.items }) (command_in mode) text.now (outcome_of r)) }
     ensures heeded { OnOk result (AreHeededBy (record { old = map B.seats benches.old.items; new = map B.seats benches.new.items }) (command_in mode) text.now) }
     ensures left { OnErr result (AreLeft (record { old = map B.seats benches.old.items; new = map B.seats benches.new.items }) (command_in mode)) }
@@ -227,8 +227,8 @@ fn source_response<R: Threads + Wait + Sync, S: Source, B: Seated + Drop + Send,
     ensures answered { IfOk result (Responds (record { old = map B.seats benches.old.items; new = map B.seats benches.new.items }) (command_in mode) (S.left source.old) (S.left source.new)) }
     ensures left { IsErrOf result Failure.NoMemory → AreLeft (record { old = map B.seats benches.old.items; new = map B.seats benches.new.items }) (command_in mode) }
     ensures unheard { IsErrOf result Failure.ReadFault → map B.seats benches.new.items ≡ map B.seats benches.old.items }
-    ensures unread { IsErrOf result Failure.ReadFault → TakesFew (S.left source.old) (S.left source.new) 16777216 }
-    ensures asked { TakesFew (S.left source.old) (S.left source.new) (16777216 + 4096) }
+    ensures unread { IsErrOf result Failure.ReadFault → TakesFew (S.left source.old) (S.left source.new) MAX_BYTES }
+    ensures asked { TakesFew (S.left source.old) (S.left source.new) (MAX_BYTES + 4096) }
     ensures cause { HasFailureCause (S.faults source.old) (S.faults source.new) result }
 {
     match read_all(alloc, source, MAX_BYTES) {

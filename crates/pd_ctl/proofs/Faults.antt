@@ -8,7 +8,8 @@ use Rattle.pd_lines.specs.Numeral.{number_of}
 use Rattle.op_step.specs.declared.wishes.Wish.{Wish}
 use Rattle.op_step.specs.declared.wishes.Wish.TheVariants as wishes
 use Rattle.pd_ctl.specs.Causes.{misread, Exceeds, Lacks, Misreads, Names, NamesNone}
-use Rattle.pd_ctl.specs.Commands.{and_then, asked, command_by, numbered, said, said_by, wished}
+use Rattle.pd_ctl.specs.Commands.{asked, command_by, numbered, said, said_by, wished}
+use Rattle.pd_lines.specs.Words.{and_then}
 use Rattle.pd_ctl.specs.Places.{kind_of, or_bad, rate_of}
 use Rattle.pd_ctl.specs.Table.{Number, behind, least, most, row, verb_of}
 use Rattle.pd_ctl.specs.declared.command.Command.{Command}

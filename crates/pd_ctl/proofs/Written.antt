@@ -24,7 +24,8 @@ use Rattle.pd_ctl.specs.declared.command.Command.TheVariants.{Stores, Store, Sto
 use Rattle.pd_ctl.specs.declared.parts.Parts.{Parts}
 use Rattle.pd_ctl.specs.Reports.{check_report, entry_tree, leader_report, only_reads, operators_report, report_of, schedulers_report, shown, stores_report, tso_report}
 use Rattle.pd_ctl.specs.Texts.{further, label_text, listed, separated, operator_text, peer_text, quoted_step, region_text, store_text}
-use Rattle.pd_ctl.specs.Trees.{fault_tree, label_tree, op_state_text, operator_tree, peer_tree, region_tree, role_text, step_tree, store_tree}
+use Rattle.pd_ctl.specs.Trees.{fault_tree, label_tree, operator_tree, peer_tree, region_tree, role_text, step_tree, store_tree}
+use Rattle.op_control.specs.StateText.{op_state_text}
 
 further_is : {X : Type 0} (tree : X → Data) (text : X → List ℕ) → ((x : X) → compact_text (tree x) ≡ text x) → (xs : List X) → items_text true (items_of (map tree xs)) ≡ further text xs ++ codes "]"
 further_is {X} tree text each [] = refl

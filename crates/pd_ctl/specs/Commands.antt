@@ -1,5 +1,6 @@
 -- The command that words are (pd-ctl).
 use Rattle.std.specs.Prelude.{◌≡◌, ◌⊎◌, ℕ, List, [], ◌∷◌, Option, Some, None, Result, Ok, Err}
+use Rattle.pd_lines.specs.Words.{and_then}
 use Rattle.op_step.specs.declared.wishes.Wish.{Wish}
 use Rattle.op_step.specs.declared.wishes.Wish.TheVariants as wishes
 use Rattle.pd_ctl.specs.Places.{number, rate, kind, key, name}
@@ -11,11 +12,6 @@ use Rattle.pd_ctl.specs.declared.fault.CtlFault.{CtlFault}
 use Rattle.pd_ctl.specs.declared.fault.CtlFault.TheVariants.{Unknown, MissingWord, NoMemory}
 use Rattle.pd_ctl.specs.declared.verb.Verb.{Verb}
 use Rattle.pd_ctl.specs.declared.verb.Verb.TheVariants.{Store, StoreDelete, StoreLimit, Region, RegionKey, OperatorShow, AddPeer, RemovePeer, TransferLeader, TransferPeer, OperatorRemove, OperatorCheck, SchedulerShow, SchedulerRemove, LeaderShow, LeaderResign, Tso}
-
--- the first fault, or what is made of what was read
-abbrev pub and_then : {A B : Type 0} → Result A CtlFault → (A → Result B CtlFault) → Result B CtlFault
-and_then (Ok read) make = make read
-and_then (Err fault) make = Err fault
 
 -- what is made of a single word
 abbrev pub of_one : (List ℕ → Result Command CtlFault) → List (List ℕ) → Result Command CtlFault

@@ -12,7 +12,8 @@ use Rattle.store_table.specs.declared.entry.StoreEntry.{StoreEntry}
 use Rattle.op_control.specs.Table.{Table, active_at, state_of}
 use Rattle.op_control.specs.declared.operator.Operator.{Operator}
 use Rattle.op_control.specs.declared.operator.OpState.{OpState}
-use Rattle.pd_ctl.specs.Trees.{count, fault_tree, op_state_text, operator_tree, region_tree, single, store_tree}
+use Rattle.pd_ctl.specs.Trees.{count, fault_tree, operator_tree, region_tree, single, store_tree}
+use Rattle.op_control.specs.StateText.{op_state_text}
 use Rattle.pd_ctl.specs.declared.command.Command.{Command}
 use Rattle.pd_ctl.specs.declared.command.Command.TheVariants.{Stores, Store, StoreDelete, StoreLimit, Region, RegionKey, OperatorShow, OperatorAdd, OperatorRemove, OperatorCheck, SchedulerShow, SchedulerRemove, LeaderShow, LeaderResign, Tso}
 use Rattle.pd_ctl.specs.declared.parts.Parts.{Parts}

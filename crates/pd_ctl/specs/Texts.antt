@@ -14,7 +14,8 @@ use Rattle.op_control.specs.declared.operator.Operator.{Operator}
 use Rattle.store_table.specs.StateText.{state_text}
 use Rattle.store_table.specs.declared.names.StateName.{StateName}
 use Rattle.pd_ctl.specs.Reports.{report_of}
-use Rattle.pd_ctl.specs.Trees.{op_state_text, role_text}
+use Rattle.pd_ctl.specs.Trees.{role_text}
+use Rattle.op_control.specs.StateText.{op_state_text}
 use Rattle.pd_ctl.specs.declared.command.Command.{Command}
 use Rattle.pd_ctl.specs.declared.parts.Parts.{Parts}
 

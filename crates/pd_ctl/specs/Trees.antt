@@ -14,8 +14,7 @@ use Rattle.pd_types.specs.declared.store.Label.{Label}
 use Rattle.pd_types.specs.declared.store.StoreRec.{StoreRec}
 use Rattle.heartbeat.specs.Counts.{region_count, leader_count}
 use Rattle.op_control.specs.declared.operator.Operator.{Operator}
-use Rattle.op_control.specs.declared.operator.OpState.{OpState}
-use Rattle.op_control.specs.declared.operator.OpState.TheVariants.{Created, Started, Success, Canceled, Replaced, Expired, Timeout}
+use Rattle.op_control.specs.StateText.{op_state_text}
 use Rattle.store_table.specs.StateText.{state_text}
 use Rattle.store_table.specs.declared.names.StateName.{StateName}
 
@@ -58,16 +57,6 @@ region_tree beat =
     (member (codes "peers") (array (items_of (map peer_tree beat.region.peers)))
     (member (codes "start_key") (string (encode_lower beat.region.start))
     (member (codes "version") (count beat.region.epoch.version) no_members)))))))
-
--- the name of an operator's state
-abbrev pub op_state_text : OpState → List ℕ
-op_state_text Created = codes "Created"
-op_state_text Started = codes "Started"
-op_state_text Success = codes "Success"
-op_state_text Canceled = codes "Canceled"
-op_state_text Replaced = codes "Replaced"
-op_state_text Expired = codes "Expired"
-op_state_text Timeout = codes "Timeout"
 
 -- a step by its text
 abbrev pub step_tree : Step → Data

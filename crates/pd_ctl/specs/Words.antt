@@ -1,10 +1,7 @@
 -- The words of a command (pd-ctl): what stands between spaces and isn't empty.
-use Rattle.std.specs.Prelude.{ℕ, nat_eq, nat_lt, List, length, Bool}
+use Rattle.std.specs.Prelude.{ℕ, nat_eq, List}
 use Rattle.std.specs.List.{filter, slice_split}
-
--- the piece isn't empty
-abbrev pub is_word : List ℕ → Bool
-is_word piece = nat_lt 0 (length piece)
+use Rattle.pd_lines.specs.Words.{is_word}
 
 -- the words, in their order
 abbrev pub words : List ℕ → List (List ℕ)

@@ -17,7 +17,7 @@ ghost use Rattle.pd_ctl.specs.Printed.{command_words, IsWritable};
 ghost use Rattle.pd_ctl.specs.Reports.{only_reads, report_of, shown};
 ghost use Rattle.pd_ctl.specs.Table.{verb_of};
 ghost use Rattle.pd_ctl.specs.Texts.{listed, operator_text, region_text, store_text, IsTold};
-ghost use Rattle.pd_ctl.specs.Trees.{op_state_text};
+ghost use Rattle.op_control.specs.StateText.{op_state_text};
 ghost use Rattle.pd_ctl.specs.declared.command.Command.{Command};
 ghost use Rattle.pd_ctl.specs.declared.command.Command.TheVariants as commands;
 ghost use Rattle.pd_ctl.specs.declared.fault.CtlFault.TheVariants as faults;

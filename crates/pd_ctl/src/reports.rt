@@ -144,7 +144,7 @@ fn check(alloc: Global, region: u64, state: Option<OpState>) -> Result<Value, No
     let Some(state) = state else {
         return trees::fault(alloc, "absent");
     };
-    let state = trees::state_name(state);
+    let state = state.name();
     Ok(json!(in alloc; {"region": region, "state": state})?)
 }
 

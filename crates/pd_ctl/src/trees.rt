@@ -5,11 +5,12 @@ ghost use Rattle.heartbeat.specs.Counts.{leader_count, region_count};
 ghost use Rattle.serde_json.specs.Data.{string, array, put as with_member};
 ghost use Rattle.serde_json.specs.View.{view, items_of, members_view};
 ghost use Rattle.store_table.specs.StateText.{state_text};
-ghost use Rattle.pd_ctl.specs.Trees.{count, fault_tree, label_tree, op_state_text, operator_tree, peer_tree, region_tree, role_text, step_tree, store_tree};
+ghost use Rattle.pd_ctl.specs.Trees.{count, fault_tree, label_tree, operator_tree, peer_tree, region_tree, role_text, step_tree, store_tree};
+ghost use Rattle.op_control.specs.StateText.{op_state_text};
 
 use crate::members::{put_count, put_key, put_text};
 use heartbeat::Standing;
-use op_control::{OpState, Operator};
+use op_control::Operator;
 use pd_types::{Epoch, Label, NoMemory, Peer, Region, RegionBeat, Role, Step, StoreRec, Text};
 use serde_json::{Map, Value, json, put};
 use std::alloc::Global;
@@ -170,21 +171,6 @@ pub fn region(alloc: Global, beat: &RegionBeat) -> Result<Value, NoMemory>
     Ok(Value::Object(members))
 }
 
-/// The name of an operator's state.
-pub fn state_name(state: OpState) -> &'static str
-    ensures { result.now ≡ op_state_text state }
-{
-    match state {
-        OpState::Created => "Created",
-        OpState::Started => "Started",
-        OpState::Success => "Success",
-        OpState::Canceled => "Canceled",
-        OpState::Replaced => "Replaced",
-        OpState::Expired => "Expired",
-        OpState::Timeout => "Timeout",
-    }
-}
-
 fn step(alloc: Global, step: &Step) -> Result<Value, NoMemory>
     ensures { IfOk result (λ v. view v ≡ step_tree step.now) }
 {
@@ -209,7 +195,7 @@ fn put_names(members: &mut Map<String, Value>, alloc: Global, op: &Operator) -> 
 {
     put_text(members, alloc, "kind", op.kind.as_str())?;
     put_count(members, alloc, "region", op.region)?;
-    put_text(members, alloc, "state", state_name(op.state))
+    put_text(members, alloc, "state", op.state.name())
 }
 
 fn put_steps(members: &mut Map<String, Value>, alloc: Global, op: &Operator) -> Result<(), NoMemory>

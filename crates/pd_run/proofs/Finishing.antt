@@ -6,13 +6,12 @@ use Rattle.std.proofs.lemmas.List.Elements.{All-cons, All-contains, All-head, Al
 use Rattle.atomic_table.specs.Seated.{TableId}
 use Rattle.sched_api.specs.Benches.{Seats}
 use Rattle.tso_model.specs.declared.view.View.{View}
-use Rattle.tso_model.specs.Moves.{numbers_from}
+use Rattle.tso_model.specs.Moves.{numbers_from, driver_view}
 use Rattle.tso_model.specs.Sound.{IsSetup}
 use Rattle.tso_board.specs.declared.board.Board.{Board}
 use Rattle.tso_board.specs.declared.opening.Crew.{Crew}
 use Rattle.tso_board.specs.declared.pass.Pass.{Pass}
 use Rattle.tso_board.specs.declared.seat.DriverSeat.{DriverSeat}
-use Rattle.tso_board.specs.Actors.{driver_view}
 use Rattle.tso_board.specs.Boards.{setup_of}
 use Rattle.tso_board.specs.Crews.{IsWhole, ledger_batches, ledger_windows}
 use Rattle.tso_board.specs.Ledger.{GatheredFrom, HasEach}

@@ -3,9 +3,8 @@ use Rattle.std.specs.Prelude.{◌≡◌, ℕ, ◌+◌, List, [], ◌∷◌, fals
 use Rattle.std.specs.List.{AllZip}
 use Rattle.atomic_table.specs.Seated.{TableId}
 use Rattle.pd_turn.specs.Turns.{TurnValue}
-use Rattle.tso_model.specs.Moves.{numbers_from}
+use Rattle.tso_model.specs.Moves.{numbers_from, driver_view}
 use Rattle.tso_board.specs.declared.board.Board.{Board}
-use Rattle.tso_board.specs.Actors.{driver_view}
 use Rattle.tso_board.specs.Boards.{setup_of}
 use Rattle.tso_board.specs.Seats.{IsSeatOf, seat_view}
 use Rattle.tso_run.specs.declared.caller.ClientWork.{ClientWork}

@@ -7,7 +7,7 @@ use Rattle.atomic_table.specs.Seated.{TableId}
 use Rattle.pd_types.specs.declared.oracle.Actor.TheVariants.{Driver, Store}
 use Rattle.pd_types.specs.declared.step.StepMsg.{StepMsg}
 use Rattle.tso_board.specs.declared.board.Board.{Board}
-use Rattle.tso_board.specs.Actors.{driver_view}
+use Rattle.tso_model.specs.Moves.{driver_view}
 use Rattle.tso_board.specs.Boards.{setup_of}
 use Rattle.tso_driver.specs.Drivers.{IsDriverOf, view_of}
 use Rattle.tso_outcome.specs.Drives.{Drove}

@@ -2,7 +2,8 @@
 use Rattle.std.proofs.Common.{◌≡◌, ◌<◌, ℕ, ◌+◌, suc, List, [], ◌∷◌, ◌++◌, Bool, true, false, length, drop, refl, sym, ap, ◌∙◌, arith, length-append}
 use Rattle.std.specs.List.{filter, position_or_len, prefix_len}
 use Rattle.std.proofs.lemmas.Bool.Decides.{nat_tests}
-use Rattle.pd_script.specs.Words.{behind_word, from_space, from_word, is_space, is_word, pieces_from, words}
+use Rattle.pd_script.specs.Words.{behind_word, from_space, from_word, is_space, pieces_from, words}
+use Rattle.pd_lines.specs.Words.{is_word}
 use Rattle.pd_script.proofs.Cuts.{at_space, past_byte, space_before, word_first}
 
 is_32 : (b : ℕ) → is_space b ≡ true → b ≡ 32

@@ -6,7 +6,8 @@ use Rattle.std.proofs.lemmas.List.Sums.{position_or_len_is, prefix_len_is}
 use Rattle.std.proofs.Math.Seq.{drop-cons}
 use Rattle.std.proofs.lemmas.Bool.Decides.{nat_tests}
 use Rattle.std.specs.List.{position_or_len, prefix_len}
-use Rattle.pd_script.specs.Words.{from_space, from_word, is_space, is_word, pieces_from, words}
+use Rattle.pd_script.specs.Words.{from_space, from_word, is_space, pieces_from, words}
+use Rattle.pd_lines.specs.Words.{is_word}
 
 pub at_space : (piece rest : List ℕ) (b : ℕ) → b ≡ 32 → pieces_from piece (b ∷ rest) ≡ piece ∷ pieces_from [] rest
 at_space piece rest b space = let e : nat_eq b 32 ≡ true = grind (arith, nat_tests) in rw e refl

@@ -23,7 +23,8 @@ use Rattle.pd_script.specs.StoreLines.{alive_of, greeted, head_of, hello_of, lab
 use Rattle.pd_script.specs.CtlLines.{ctl_by, schedule_of}
 use Rattle.pd_script.specs.CheckLines.{check_of, patrol_of}
 use Rattle.pd_script.specs.Formed.{IsAsked, IsDown, IsId, IsPeer, IsReport, IsSpoken}
-use Rattle.pd_script.specs.Forms.{Item, address_form, and_then, before_colon, down_of, downs_from, downs_of, ids_from, in_front, is_colon, items_of, key_form, peer_of, peers_from, peers_of, pending_of, role_of, spelled_or, unless_colon}
+use Rattle.pd_script.specs.Forms.{Item, address_form, before_colon, down_of, downs_from, downs_of, ids_from, in_front, is_colon, items_of, key_form, peer_of, peers_from, peers_of, pending_of, role_of, spelled_or, unless_colon}
+use Rattle.pd_lines.specs.Words.{and_then}
 use Rattle.pd_script.specs.Places.{read_place}
 use Rattle.pd_script.specs.RuleLines.{is_name, json_form, name_form, rule_by, unrule_of}
 use Rattle.pd_script.specs.Words.{behind_word, trimmed, words}

@@ -4,7 +4,8 @@ use Rattle.std.specs.Str.{bytes_eq}
 use Rattle.pd_types.specs.declared.region.Epoch.{Epoch}
 use Rattle.pd_types.specs.declared.region.RegionBeat.{RegionBeat}
 use Rattle.pd_types.specs.declared.request.Request.TheVariants.{Beat}
-use Rattle.pd_script.specs.Forms.{and_then, downs_of, key_form, peers_of, pending_of}
+use Rattle.pd_script.specs.Forms.{downs_of, key_form, peers_of, pending_of}
+use Rattle.pd_lines.specs.Words.{and_then}
 use Rattle.pd_script.specs.Places.{read_place}
 use Rattle.pd_script.specs.StoreLines.{head_of}
 use Rattle.pd_script.specs.declared.ask.Asked.{Asked}

@@ -1,7 +1,7 @@
 -- The lines that have regions checked (own choice): `check D NOW R`, one region, and `patrol D NOW W`, all of them with W workers.
 use Rattle.std.specs.Prelude.{ℕ, List, [], ◌∷◌, Result, Ok, Err}
 use Rattle.pd_types.specs.declared.request.Request.TheVariants.{Check, Patrol}
-use Rattle.pd_script.specs.Forms.{and_then}
+use Rattle.pd_lines.specs.Words.{and_then}
 use Rattle.pd_script.specs.Places.{read_place}
 use Rattle.pd_script.specs.declared.ask.Asked.{Asked}
 use Rattle.pd_script.specs.declared.place.Place.TheVariants.{Driver, Id, Moment, Workers}

@@ -2,7 +2,7 @@
 -- with the spaces inside them; whether they are a command is the cluster's answer, and no fault of the line.
 use Rattle.std.specs.Prelude.{ℕ, List, [], ◌∷◌, Result, Ok, Err}
 use Rattle.pd_types.specs.declared.request.Request.TheVariants.{Ctl, Schedule}
-use Rattle.pd_script.specs.Forms.{and_then}
+use Rattle.pd_lines.specs.Words.{and_then}
 use Rattle.pd_script.specs.Places.{read_place}
 use Rattle.pd_script.specs.Words.{behind_word, trimmed, words}
 use Rattle.pd_script.specs.declared.ask.Asked.{Asked}

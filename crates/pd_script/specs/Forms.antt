@@ -9,16 +9,12 @@ use Rattle.pd_types.specs.declared.store.Label.{Label}
 use Rattle.pd_lines.specs.Keys.{key_of}
 use Rattle.pd_lines.specs.Labels.{labels_of}
 use Rattle.pd_lines.specs.Plain.{address_of}
+use Rattle.pd_lines.specs.Words.{and_then}
 use Rattle.pd_script.specs.Places.{read_place}
 use Rattle.pd_script.specs.declared.place.Place.{Place}
 use Rattle.pd_script.specs.declared.place.Place.TheVariants.{Id, Seconds}
 use Rattle.pd_script.specs.declared.refusal.Reason.{Reason}
 use Rattle.pd_script.specs.declared.refusal.Reason.TheVariants.{BadWord}
-
--- what is read next with a value; a reason stays
-abbrev pub and_then : {A B : Type 0} → Result A Reason → (A → Result B Reason) → Result B Reason
-and_then (Ok value) next = next value
-and_then (Err reason) next = Err reason
 
 -- what a word spells, where it is in the form of its place
 abbrev pub spelled_or : {A : Type 0} → Option A → Result A Reason

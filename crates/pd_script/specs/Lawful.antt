@@ -2,6 +2,7 @@
 -- numbered, have their actors and stand where they may, its drivers and clients are the greatest named, and its limits hold.
 use Rattle.std.specs.Prelude.{◌≡◌, ◌⊎◌, ℕ, ◌<◌, ◌≤◌, List, [], ◌∷◌, length, Bool, true, false, Option, IfSome, All, AllPairs, Contains, flat_map, option_to_list}
 use Rattle.std.specs.List.{AllByRecursion, count_by}
+use Rattle.pd_types.specs.Numbers.{IsOneOf}
 use Rattle.pd_types.specs.declared.oracle.Actor.{Actor}
 use Rattle.pd_script.specs.Formed.{IsAsked}
 use Rattle.pd_script.specs.Places.{least, most}
@@ -10,16 +11,12 @@ use Rattle.pd_script.specs.Scripts.{is_lead, is_report, store_in}
 use Rattle.pd_script.specs.Table.{is_misplaced}
 use Rattle.pd_script.specs.declared.act.Act.{Act}
 use Rattle.pd_script.specs.declared.act.Line.{Line}
+use Rattle.pd_script.specs.declared.limits.TheConstants.{MAX_CLIENTS, MAX_DRIVERS, MAX_EVENTS, MAX_LEADS, MAX_REPORTS, MAX_STORES}
 use Rattle.pd_script.specs.declared.place.Place.{Place}
 use Rattle.pd_script.specs.declared.place.Place.TheVariants.{Driver, Client}
 use Rattle.pd_script.specs.declared.script.Mode.{Mode}
 use Rattle.pd_script.specs.declared.script.Script.{Script}
 use Rattle.pd_script.specs.declared.verb.Where.{Where}
-
--- the number of one of so many drivers or clients
-pub record IsOneOf (most n : ℕ) : Type 0 where
-  pub pos : 0 < n
-  pub low : n ≤ most
 
 -- the greatest number of a place, where so many drivers and clients run
 abbrev pub most_of : ℕ → ℕ → Place → ℕ
@@ -80,8 +77,8 @@ pub record AreAtMost (most : ℕ) (numbers : List ℕ) : Type 0 where
 -- or more, each line's actor the one of its act, and what is asked of a cluster in its form; at most
 -- 65,536 lines, 256 stores that speak and 1,024 lines `lead` and `publish`
 pub record IsLawfulScript (mode : Mode) (script : Script) : Type 0 where
-  pub drivers : IsOneOf 7 script.drivers
-  pub clients : IsOneOf 64 script.clients
+  pub drivers : IsOneOf MAX_DRIVERS script.drivers
+  pub clients : IsOneOf MAX_CLIENTS script.clients
   pub lines : AreLawful mode script.drivers script.clients true script.lines
   pub numbered : All (λ line. 0 < line.number) script.lines
   pub rise : AllPairs (λ one later. one.number < later.number) script.lines
@@ -89,7 +86,7 @@ pub record IsLawfulScript (mode : Mode) (script : Script) : Type 0 where
   pub formed : All (λ line. IsFormed line.act) script.lines
   pub most_drivers : IsGreatest (flat_map (λ line. drivers_named line.act) script.lines) script.drivers
   pub most_clients : IsGreatest (flat_map (λ line. clients_named line.act) script.lines) script.clients
-  pub events : length script.lines ≤ 65536
-  pub speakers : AreAtMost 256 (flat_map (λ line. speaking line.act) script.lines)
-  pub reports : count_by (λ line. is_report line.act) script.lines ≤ 1024
-  pub leads : count_by (λ line. is_lead line.act) script.lines ≤ 1024
+  pub events : length script.lines ≤ MAX_EVENTS
+  pub speakers : AreAtMost MAX_STORES (flat_map (λ line. speaking line.act) script.lines)
+  pub reports : count_by (λ line. is_report line.act) script.lines ≤ MAX_REPORTS
+  pub leads : count_by (λ line. is_lead line.act) script.lines ≤ MAX_LEADS

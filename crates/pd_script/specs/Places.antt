@@ -1,5 +1,7 @@
 -- What may stand in a place of a line (own choice).
 use Rattle.std.specs.Prelude.{ℕ, ◌-◌, ◌^◌, List, ◌&&◌, nat_le, Option, Some, None, Result, Ok, Err, if◌then◌else◌}
+use Rattle.pd_types.specs.declared.stamp.TheConstants.{MAX_COUNT}
+use Rattle.pd_types.specs.declared.oracle.TheConstants.{CLOCK_END, LAST_TERM}
 use Rattle.pd_lines.specs.Numeral.{number_of}
 use Rattle.pd_script.specs.declared.place.Place.{Place}
 use Rattle.pd_script.specs.declared.place.Place.TheVariants.{Driver, Client, Moment, Count, Saved, Term, Id, Version, Seconds, Workers}
@@ -24,9 +26,9 @@ abbrev pub most : Place → ℕ
 most Driver = 2 ^ 64 - 1
 most Client = 2 ^ 64 - 1
 most Moment = 2 ^ 46 - 1
-most Count = 262143
-most Saved = 2 ^ 45 - 1
-most Term = 262143
+most Count = MAX_COUNT
+most Saved = CLOCK_END - 1
+most Term = LAST_TERM
 most Id = 2 ^ 63 - 1
 most Version = 2 ^ 63 - 1
 most Seconds = 2 ^ 32 - 1

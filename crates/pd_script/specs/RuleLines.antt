@@ -3,7 +3,7 @@
 use Rattle.std.specs.Prelude.{ℕ, List, [], ◌∷◌, length, Bool, ◌&&◌, nat_le, nat_lt, Result, Ok, Err, if◌then◌else◌}
 use Rattle.std.specs.List.{list_all}
 use Rattle.pd_types.specs.declared.request.Request.TheVariants.{Rule, Unrule}
-use Rattle.pd_script.specs.Forms.{and_then}
+use Rattle.pd_lines.specs.Words.{and_then}
 use Rattle.pd_script.specs.Places.{read_place}
 use Rattle.pd_script.specs.Words.{behind_word, trimmed, words}
 use Rattle.pd_script.specs.declared.ask.Asked.{Asked}

@@ -3,7 +3,8 @@
 use Rattle.std.specs.Prelude.{ℕ, List, [], ◌∷◌, Result, Ok, Err}
 use Rattle.pd_types.specs.declared.request.Request.TheVariants.{Hello, Alive}
 use Rattle.pd_types.specs.declared.store.Label.{Label}
-use Rattle.pd_script.specs.Forms.{address_form, and_then, labels_form}
+use Rattle.pd_script.specs.Forms.{address_form, labels_form}
+use Rattle.pd_lines.specs.Words.{and_then}
 use Rattle.pd_script.specs.Places.{read_place}
 use Rattle.pd_script.specs.declared.ask.Asked.{Asked}
 use Rattle.pd_script.specs.declared.ask.Head.{Head}

@@ -1,15 +1,12 @@
 -- The lines of a text and the words of a line (own choice).
-use Rattle.std.specs.Prelude.{ℕ, ◌-◌, List, [], ◌∷◌, ◌++◌, Bool, true, false, nat_eq, nat_lt, length, take, drop, if◌then◌else◌}
+use Rattle.std.specs.Prelude.{ℕ, ◌-◌, List, [], ◌∷◌, ◌++◌, Bool, true, false, nat_eq, length, take, drop, if◌then◌else◌}
 use Rattle.std.specs.List.{filter, position_or_len, prefix_len, suffix_len}
+use Rattle.pd_lines.specs.Words.{is_word}
 
 -- what stands between spaces; this piece so far
 abbrev pub pieces_from : List ℕ → List ℕ → List (List ℕ)
 pieces_from piece [] = piece ∷ []
 pieces_from piece (b ∷ bs) = if nat_eq b 32 then piece ∷ pieces_from [] bs else pieces_from (piece ++ b ∷ []) bs
-
--- the piece isn't empty
-abbrev pub is_word : List ℕ → Bool
-is_word piece = nat_lt 0 (length piece)
 
 -- the words of a line: what stands between spaces and isn't empty
 abbrev pub words : List ℕ → List (List ℕ)

@@ -3,6 +3,7 @@ ghost use Rattle.pd_script.specs.Places.{least, most, read_place};
 
 use crate::Reason;
 use pd_lines::number;
+use pd_types::{CLOCK_END, LAST_TERM, MAX_COUNT};
 
 /// What may stand in a place of a line.
 #[derive(Clone, Copy, Debug, PartialEq, Eq)]
@@ -48,8 +49,9 @@ impl Place {
         match self {
             Place::Driver | Place::Client => u64::MAX,
             Place::Moment => (1 << 46) - 1,
-            Place::Saved => (1 << 45) - 1,
-            Place::Count | Place::Term => 262_143,
+            Place::Saved => CLOCK_END - 1,
+            Place::Count => MAX_COUNT,
+            Place::Term => LAST_TERM,
             Place::Id | Place::Version => (1 << 63) - 1,
             Place::Seconds => (1 << 32) - 1,
             Place::Workers => 16,

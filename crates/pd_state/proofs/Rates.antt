@@ -8,7 +8,8 @@ use Rattle.op_step.specs.declared.wishes.Wish.TheVariants as wishes
 use Rattle.pd_lines.specs.Numeral.{number_of}
 use Rattle.store_limit.specs.declared.bucket.TheConstants.{MAX_RATE}
 use Rattle.store_limit.specs.declared.limits.LimitKind.{LimitKind}
-use Rattle.pd_ctl.specs.Commands.{IsRefusal, and_then, asked, command_of, numbered, said_by, unless_miscounted, wished}
+use Rattle.pd_ctl.specs.Commands.{IsRefusal, asked, command_of, numbered, said_by, unless_miscounted, wished}
+use Rattle.pd_lines.specs.Words.{and_then}
 use Rattle.pd_ctl.specs.Places.{key, kind, name, number, or_bad, rate}
 use Rattle.pd_ctl.specs.Table.{behind, least, miscount, most, verb_of}
 use Rattle.pd_ctl.specs.Words.{words}

@@ -6,8 +6,7 @@ use Rattle.op_step.specs.declared.wishes.BuildFault.{BuildFault}
 use Rattle.op_step.specs.declared.wishes.BuildFault.TheVariants as builds
 use Rattle.op_step.specs.declared.safety.Why.{Why}
 use Rattle.op_step.specs.declared.safety.Why.TheVariants as why
-use Rattle.op_control.specs.declared.operator.OpState.{OpState}
-use Rattle.op_control.specs.declared.operator.OpState.TheVariants as states
+use Rattle.op_control.specs.StateText.{op_state_text}
 use Rattle.op_control.specs.declared.adding.AddFault.{AddFault}
 use Rattle.op_control.specs.declared.adding.AddFault.TheVariants as faults
 use Rattle.op_control.specs.declared.turn.Dispatch.{Dispatch}
@@ -16,16 +15,6 @@ use Rattle.rule_checker.specs.declared.class.Class.{Class}
 use Rattle.rule_checker.specs.declared.class.Class.TheVariants as classes
 use Rattle.pd_state.specs.declared.adding.Adding.{Adding}
 use Rattle.pd_state.specs.declared.adding.Adding.TheVariants as adding
-
--- the name of an operator's state
-abbrev pub state_text : OpState → List ℕ
-state_text states.Created = codes "Created"
-state_text states.Started = codes "Started"
-state_text states.Success = codes "Success"
-state_text states.Canceled = codes "Canceled"
-state_text states.Replaced = codes "Replaced"
-state_text states.Expired = codes "Expired"
-state_text states.Timeout = codes "Timeout"
 
 -- the name of the test that holds a step
 abbrev pub why_text : Why → List ℕ
@@ -39,7 +28,7 @@ dispatch_text dispatch.NoOperator = codes "none"
 dispatch_text (dispatch.Send step) = codes "send " ++ step_text step
 dispatch_text (dispatch.Wait held) = codes "held " ++ why_text held.why ++ codes " live " ++ decimal held.live ++ codes " of " ++ decimal held.voters
 dispatch_text dispatch.Done = codes "done"
-dispatch_text (dispatch.Ended state) = codes "ended " ++ state_text state
+dispatch_text (dispatch.Ended state) = codes "ended " ++ op_state_text state
 
 -- the test of an operator that fails; want of memory is no answer
 abbrev pub fault_text : AddFault → List ℕ

@@ -3,8 +3,7 @@ use Rattle.std.specs.Prelude.{◌≡◌, ℕ, List, [], ◌∷◌, ◌++◌, rev
 use Rattle.pd_types.specs.declared.oracle.Actor.{Actor}
 use Rattle.pd_types.specs.declared.request.Request.{Request}
 use Rattle.pd_types.specs.declared.request.Request.TheVariants as ask
-use Rattle.meta_store.specs.declared.record.MetaAnswer.{MetaAnswer}
-use Rattle.meta_store.specs.declared.record.MetaEntry.{MetaEntry}
+use Rattle.meta_store.specs.Doors.{Spoken}
 use Rattle.pd_state.specs.declared.adding.Adding.{Adding}
 use Rattle.pd_state.specs.declared.adding.Adding.TheVariants as adding
 use Rattle.pd_state.specs.declared.entry.Entry.{Entry}
@@ -109,13 +108,6 @@ raised entry part = record part { clock = max part.clock (moment_of entry.reques
 -- the same, where there is a term
 abbrev pub with_clock : Entry → Option Part → Option Part
 with_clock entry part = option_map (raised entry) part
-
--- what a door said and told, before and after
-pub record Spoken : Type 0 where
-  pub said_old : List MetaAnswer
-  pub said_new : List MetaAnswer
-  pub told_old : Option (List MetaEntry)
-  pub told_new : Option (List MetaEntry)
 
 -- One entry was appended, of this actor, line and request, with this reply, and the entries before it allow it; the door said just
 -- its answers, and told their calls; the bench said just what the entry heard of it; a refused request leaves all but the clock and

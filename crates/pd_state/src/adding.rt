@@ -1,9 +1,9 @@
 // What comes of adding an operator.
 ghost use Rattle.std.specs.Prelude.{◌≡◌, ◌<◌, ◌∷◌, [], Some, slice_index};
 ghost use Rattle.hex.specs.Hex.{encode_lower, lower_digits};
-ghost use Rattle.pd_state.specs.AddingText.{adding_text, build_text, class_text, dispatch_text, state_text, why_text};
+ghost use Rattle.pd_state.specs.AddingText.{adding_text, build_text, class_text, dispatch_text, why_text};
 
-use op_control::{AddFault, Dispatch, OpState};
+use op_control::{AddFault, Dispatch};
 use op_step::{BuildFault, Why};
 use rule_checker::Class;
 use std::fmt;
@@ -26,21 +26,6 @@ pub enum Adding {
     MetaLimit,
     /// No window of ids is left.
     IdsSpent,
-}
-
-// The name of an operator's state.
-fn state_text(state: OpState) -> &'static str
-    ensures value { result.now ≡ state_text state }
-{
-    match state {
-        OpState::Created => "Created",
-        OpState::Started => "Started",
-        OpState::Success => "Success",
-        OpState::Canceled => "Canceled",
-        OpState::Replaced => "Replaced",
-        OpState::Expired => "Expired",
-        OpState::Timeout => "Timeout",
-    }
 }
 
 // The name of the test that holds a step.
@@ -145,7 +130,7 @@ impl fmt::Display for DispatchText {
             }
             Dispatch::Done => write!(f, "done"),
             Dispatch::Ended(state) => {
-                let state = state_text(state);
+                let state = state.name();
                 write!(f, "ended {state}")
             }
         }

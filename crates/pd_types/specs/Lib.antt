@@ -2,6 +2,7 @@ pub mod Batch
 pub mod BeatCheck
 pub mod Bytes
 pub mod Keys
+pub mod Numbers
 pub mod Roles
 pub mod StepText
 pub mod ProposalText

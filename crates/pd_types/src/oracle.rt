@@ -4,6 +4,14 @@ ghost use Rattle.pd_types.specs.Batch.{first_of, Holds};
 use crate::{Duplicate, NoMemory};
 use std::alloc::Global;
 
+/// Saved times are below this, in milliseconds since the epoch.
+pub const CLOCK_END: u64 = 1 << 45;
+
+/// The last term. It fits one word beside a saved time.
+pub const LAST_TERM: u64 = 262143;
+
+const _: () = prove!(CLOCK_END == 35_184_372_088_832 && LAST_TERM == 262_143);
+
 /// A batch of timestamps (pdpb `TsoResponse`): the `count` numbers that end with `last`, drawn in
 /// `term` at `driver`. A batch that was granted has a count from 1 to its last.
 #[derive(Clone, Copy, Debug, PartialEq, Eq)]
@@ -26,7 +34,7 @@ impl Batch {
 }
 
 /// The guarded cell of all drivers: the end of the last saved window, in milliseconds since the
-/// epoch and below 2^45, and the last term, at most 262143.
+/// epoch and below `CLOCK_END`, and the last term, at most `LAST_TERM`.
 #[derive(Clone, Copy, Debug, PartialEq, Eq)]
 pub struct CellWord {
     pub saved: u64,

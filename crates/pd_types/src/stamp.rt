@@ -4,7 +4,10 @@ ghost use Rattle.pd_types.specs.Timestamp.{timestamp, physical, logical};
 /// How many timestamps a millisecond has.
 pub const LOGICAL: u64 = 262144;
 
-const _: () = prove!(LOGICAL == 262_144);
+/// How many timestamps a draw takes at most.
+pub const MAX_COUNT: u64 = LOGICAL - 1;
+
+const _: () = prove!(LOGICAL == 262_144 && MAX_COUNT == 262_143);
 
 /// The timestamp with these parts: milliseconds since the epoch, and a count within the
 /// millisecond.

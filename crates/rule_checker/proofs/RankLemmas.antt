@@ -1,6 +1,5 @@
 -- The order of candidates, and that a candidate has one rank.
-use Rattle.std.proofs.Common.{◌≡◌, ℕ, Bool, true, false, List, arith, sym, ◌∙◌, subst, ap, nat_lt, length}
-use Rattle.std.proofs.lemmas.Bool.Decides.{nat_tests}
+use Rattle.std.proofs.Common.{◌≡◌, ℕ, true, false, List, sym, ◌∙◌, subst, ap, length}
 use Rattle.pd_types.specs.declared.region.Peer.{Peer}
 use Rattle.pd_types.specs.declared.region.RegionBeat.{RegionBeat}
 use Rattle.pd_types.specs.declared.rule.Rule.{Rule}
@@ -12,21 +11,10 @@ use Rattle.rule_checker.specs.declared.class.Class.{Class}
 use Rattle.rule_checker.specs.declared.class.Class.TheVariants.{Promote, Transfer, AddVoter, AddLearner, Remove}
 use Rattle.rule_checker.specs.declared.class.Ranked.{Ranked}
 use Rattle.rule_checker.specs.Candidates.{steps_of, after_all}
-use Rattle.rule_checker.specs.Ranks.{lesser_then, comes_first, wins_tie, is_before, score_of}
+use Rattle.rule_checker.specs.Ranks.{comes_first, wins_tie, is_before, score_of}
+use Rattle.pd_types.proofs.Numbers.{less_on, less_self, lesser_on, lesser_self}
 use Rattle.rule_checker.specs.Measure.{Leaves, Lowers}
 use Rattle.rule_checker.proofs.BestLemmas.{IsChoice}
-
-lesser_on : (a b c : ℕ) (p q r : Bool) → (p ≡ true → q ≡ true → r ≡ true) → lesser_then a b p ≡ true → lesser_then b c q ≡ true → lesser_then a c r ≡ true
-lesser_on a b c p q r rest first second = grind (arith, nat_tests)
-
-lesser_self : (a : ℕ) (p : Bool) → p ≡ false → lesser_then a a p ≡ false
-lesser_self a p h = grind (arith, nat_tests)
-
-less_on : (a b c : ℕ) → nat_lt a b ≡ true → nat_lt b c ≡ true → nat_lt a c ≡ true
-less_on a b c h k = grind (arith, nat_tests)
-
-less_self : (a : ℕ) → nat_lt a a ≡ false
-less_self a = grind (arith, nat_tests)
 
 new_on_on : (held : List RegionBeat) (a b c : Ranked) → comes_first held a b ≡ true → comes_first held b c ≡ true → comes_first held a c ≡ true
 new_on_on held a b c first second =

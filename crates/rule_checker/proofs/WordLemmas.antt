@@ -19,7 +19,7 @@ use Rattle.op_step.proofs.CarriedLemmas.{apart, both, denied, same_number, unequ
 use Rattle.rule_fit.specs.Suits.{counts_of}
 use Rattle.rule_checker.specs.declared.class.Class.TheVariants.{Promote, Transfer, AddVoter, Remove}
 use Rattle.rule_checker.specs.Candidates.{passes}
-use Rattle.rule_checker.specs.Ranks.{lesser_then}
+use Rattle.pd_types.specs.Numbers.{lesser_then}
 
 -- the lesser one goes first
 pub first_by : (a b : ℕ) (rest : Bool) → a < b → lesser_then a b rest ≡ true

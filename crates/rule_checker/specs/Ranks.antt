@@ -1,5 +1,6 @@
 -- Which of two candidates of a class goes before the other.
-use Rattle.std.specs.Prelude.{ℕ, nat_lt, nat_eq, Bool, ◌&&◌, ◌||◌, ◌==◌, not, List, [], map, filter, find, Option, Some, None}
+use Rattle.std.specs.Prelude.{ℕ, nat_lt, Bool, ◌&&◌, ◌||◌, ◌==◌, not, List, [], map, filter, find, Option, Some, None}
+use Rattle.pd_types.specs.Numbers.{lesser_then}
 use Rattle.pd_types.specs.declared.region.Peer.{Peer}
 use Rattle.pd_types.specs.declared.region.RegionBeat.{RegionBeat}
 use Rattle.pd_types.specs.declared.rule.Rule.{Rule}
@@ -39,10 +40,6 @@ score_of Transfer beat rules stores peer = 0
 score_of AddVoter beat rules stores peer = score_beside rules stores peer.store (stores_of beat.region.peers)
 score_of AddLearner beat rules stores peer = score_beside rules stores peer.store (stores_of beat.region.peers)
 score_of Remove beat rules stores peer = score_beside rules stores peer.store (other_stores peer beat.region.peers)
-
--- the lesser number goes first; of equal ones the rest decides
-abbrev pub lesser_then : ℕ → ℕ → Bool → Bool
-lesser_then one other rest = nat_lt one other || (nat_eq one other && rest)
 
 -- a new peer goes first by the greatest score, then the fewest regions on its store, then the least store
 abbrev pub comes_first : List RegionBeat → Ranked → Ranked → Bool

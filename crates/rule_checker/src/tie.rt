@@ -1,7 +1,8 @@
 // Which of two candidates goes before the other.
 ghost use Rattle.std.specs.Prelude.{◌≡◌, ◌≤◌, IfOk, length, nat_lt};
 ghost use Rattle.heartbeat.specs.Counts.{region_count};
-ghost use Rattle.rule_checker.specs.Ranks.{comes_first, is_before, lesser_then, locations_for, other_stores, score_beside, score_of, stores_of, wins_tie};
+ghost use Rattle.rule_checker.specs.Ranks.{comes_first, is_before, locations_for, other_stores, score_beside, score_of, stores_of, wins_tie};
+ghost use Rattle.pd_types.specs.Numbers.{lesser_then};
 ghost use Rattle.rule_checker.specs.Best.{better_of};
 
 use crate::case::Case;

@@ -7,7 +7,8 @@ use Rattle.rule_fit.specs.Assignment.{IsAssignment, held, placed}
 use Rattle.rule_fit.specs.Certificate.{IsMisfitNumber}
 use Rattle.rule_fit.proofs.Totals.{none_assigned}
 use Rattle.rule_fit.proofs.Members.{In, in_either, in_filter, in_left, in_map, in_right, of_filter, of_map}
-use Rattle.rule_fit.specs.Ways.{all_suited, all_within, choices, greatest, is_allowed, misfit_number, most_placed, ways, with_each}
+use Rattle.pd_types.specs.Numbers.{greatest_of}
+use Rattle.rule_fit.specs.Ways.{all_suited, all_within, choices, is_allowed, misfit_number, most_placed, ways, with_each}
 
 -- every way is looked at
 less_or : (r n : ℕ) → r < suc n → (r ≡ n) ⊎ (r < n)
@@ -147,7 +148,7 @@ assigned suits peers counts given way h =
     }
 
 -- the greatest number
-most_in : (n : ℕ) (ns : List ℕ) → In ℕ n ns → n ≤ greatest ns
+most_in : (n : ℕ) (ns : List ℕ) → In ℕ n ns → n ≤ greatest_of ns
 most_in n [] h = absurd h
 most_in n (m ∷ ns) (inl h) = omega arith
 most_in n (m ∷ ns) (inr h) = let rest = most_in n ns h in omega (arith, rest)
@@ -155,9 +156,9 @@ most_in n (m ∷ ns) (inr h) = let rest = most_in n ns h in omega (arith, rest)
 which : (a b : ℕ) → (max a b ≡ a) ⊎ (max a b ≡ b)
 which a b = grind arith
 
-in_most : (ns : List ℕ) → (greatest ns ≡ 0) ⊎ In ℕ (greatest ns) ns
+in_most : (ns : List ℕ) → (greatest_of ns ≡ 0) ⊎ In ℕ (greatest_of ns) ns
 in_most [] = inl refl
-in_most (n ∷ ns) = elim (which n (greatest ns)) [
+in_most (n ∷ ns) = elim (which n (greatest_of ns)) [
   | inl own ↦ inr (inl own)
   | inr rest ↦ elim (in_most ns) [ inl none ↦ inl (rest ∙ none) | inr k ↦ inr (inr (subst (λ (m : ℕ). In ℕ m ns) (sym rest) k)) ]
 ]

@@ -1,6 +1,7 @@
 -- The misfit number as a value, for definitions that compute with it: of all ways to give the peers rules the best one counts. No program looks at them all;
 -- the law `one_misfit_number` says that each misfit number is this one.
-use Rattle.std.specs.Prelude.{ℕ, zero, suc, ◌+◌, ◌-◌, max, nat_le, Bool, true, ◌&&◌, List, [], ◌∷◌, ◌++◌, length, map, filter, sum, Option, Some, None}
+use Rattle.std.specs.Prelude.{ℕ, zero, suc, ◌+◌, ◌-◌, nat_le, Bool, true, ◌&&◌, List, [], ◌∷◌, ◌++◌, length, map, filter, sum, Option, Some, None}
+use Rattle.pd_types.specs.Numbers.{greatest_of}
 use Rattle.rule_fit.specs.Assignment.{held, placed}
 
 -- what one peer may be given of so many rules: the place of one of them, or none
@@ -33,14 +34,9 @@ all_within r (count ∷ counts) given = nat_le (held given r) count && all_withi
 abbrev pub is_allowed : (ℕ → ℕ → Bool) → List ℕ → List (Option ℕ) → Bool
 is_allowed suits counts given = all_suited suits 0 given && all_within 0 counts given
 
--- the greatest of these numbers
-abbrev pub greatest : List ℕ → ℕ
-greatest [] = 0
-greatest (n ∷ more) = max n (greatest more)
-
 -- how many peers can be given a rule at most
 abbrev pub most_placed : (ℕ → ℕ → Bool) → ℕ → List ℕ → ℕ
-most_placed suits peers counts = greatest (map placed (filter (is_allowed suits counts) (ways peers (length counts))))
+most_placed suits peers counts = greatest_of (map placed (filter (is_allowed suits counts) (ways peers (length counts))))
 
 -- what is missing of the counts and of the peers where the most peers have a rule
 unfoldable pub misfit_number : (ℕ → ℕ → Bool) → ℕ → List ℕ → ℕ

@@ -8,14 +8,14 @@ use Rattle.tso_model.specs.declared.entries.Claim.{Claim}
 use Rattle.tso_model.specs.declared.view.View.{View}
 use Rattle.tso_model.specs.declared.view.Setup.{Setup}
 use Rattle.tso_model.specs.declared.step.WordStep.TheVariants.{LoadCell, ClaimTerm, SaveEnd, AddArmed}
-use Rattle.tso_model.specs.Words.{packed, cell_of, cell_word, passes, cursor_at}
+use Rattle.tso_model.specs.Words.{packed, cell_of, cell_word, passes, cursor_at, IsCell}
 use Rattle.tso_model.specs.History.{History}
 use Rattle.tso_model.specs.Steps.{view_after, held, held_or, hand, HasHand, knows, claimed, saves, granted, refused, adds, batch_of}
 use Rattle.tso_model.specs.Sound.{PartA, PartB, IsAbove}
 use Rattle.tso_model.proofs.Basics.{at_some}
 use Rattle.tso_model.proofs.Growth.{live_driver}
 use Rattle.tso_model.proofs.Learned.{found_cell, cell_rises, beaten, lost, unseen}
-use Rattle.tso_board.specs.Told.{IsCell, Rises, Missed, Read, Claimed, Saved, Drawn, NotDrawn}
+use Rattle.tso_board.specs.Told.{Rises, Missed, Read, Claimed, Saved, Drawn, NotDrawn}
 use Rattle.tso_board.specs.Told.{IsHigher}
 
 module _ (k : Setup) (words : List ℕ) (views : List View) (h : History) (id : ℕ) (v : View) (a : PartA k words views h) (at : get_elem? views id ≡ some v) (driver : 0 < v.driver) where

@@ -5,8 +5,7 @@ use Rattle.std.proofs.lemmas.List.Elements.{All-push}
 use Rattle.std.proofs.lemmas.List.{map-append}
 use Rattle.tso_model.specs.declared.view.View.{View}
 use Rattle.tso_model.specs.declared.view.Setup.{Setup}
-use Rattle.tso_model.specs.Moves.{blank, numbers_from, rest_of, head_of, gave_driver, gave_client, new_driver, new_client, first_view}
-use Rattle.tso_board.specs.Actors.{driver_view, client_view}
+use Rattle.tso_model.specs.Moves.{blank, numbers_from, rest_of, head_of, gave_driver, gave_client, new_driver, new_client, first_view, driver_view, client_view}
 use Rattle.tso_board.specs.Opened.{left}
 use Rattle.tso_board.specs.Plays.{Sat}
 

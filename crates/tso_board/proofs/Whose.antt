@@ -5,7 +5,7 @@ use Rattle.tso_model.specs.declared.view.View.{View}
 use mathlib.Core.Logic.{dite}
 use native.Mathlib.Decide.{ℕ_discrete}
 use Rattle.tso_model.specs.declared.view.Setup.{Setup}
-use Rattle.tso_model.specs.Moves.{numbers_from}
+use Rattle.tso_model.specs.Moves.{numbers_from, driver_view, client_view}
 use Rattle.tso_model.proofs.Basics.{in_cons, in_head, in_nil, in_tail}
 use Rattle.tso_board.specs.declared.opening.Crew.{Crew}
 use Rattle.tso_board.specs.Crews.{IsWhole}
@@ -13,7 +13,7 @@ use Rattle.tso_board.specs.Ledger.{HasEach}
 use Rattle.tso_board.specs.Opened.{IsOpened}
 use Rattle.tso_board.specs.declared.seat.DriverSeat.{DriverSeat}
 use Rattle.tso_board.specs.declared.pass.Pass.{Pass}
-use Rattle.tso_board.specs.Actors.{IsDriverView, IsClientView, driver_view, client_view}
+use Rattle.tso_board.specs.Actors.{IsDriverView, IsClientView}
 use Rattle.tso_board.specs.Seats.{seat_view}
 use Rattle.tso_board.specs.Passes.{pass_view}
 

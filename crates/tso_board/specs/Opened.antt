@@ -1,19 +1,19 @@
 -- What a new board comes with. Own choice: all numbers are given at once, and in their order.
 use Rattle.std.specs.Prelude.{◌≡◌, ℕ, ◌+◌, ◌-◌, ◌*◌, [], map, All}
+use Rattle.pd_types.specs.declared.stamp.TheConstants.{LOGICAL}
 use Rattle.tso_model.specs.declared.view.View.{View}
 use Rattle.tso_model.specs.declared.view.Setup.{Setup}
-use Rattle.tso_model.specs.Moves.{blank, numbers_from}
+use Rattle.tso_model.specs.Moves.{blank, numbers_from, driver_view, client_view}
 use Rattle.tso_board.specs.declared.seat.DriverSeat.{DriverSeat}
 use Rattle.tso_board.specs.declared.pass.Pass.{Pass}
 use Rattle.tso_board.specs.declared.opening.Crew.{Crew}
-use Rattle.tso_board.specs.Actors.{driver_view, client_view}
 use Rattle.tso_board.specs.Boards.{setup_of}
 use Rattle.tso_board.specs.Seats.{IsSeatOf, seat_view}
 use Rattle.tso_board.specs.Passes.{IsPassOf, pass_view}
 
 -- the base once it has given the first i drivers and the first j clients away
 abbrev pub left : Setup → ℕ → ℕ → View
-left k i j = record (blank k.cell) { give_drivers = numbers_from (i + 1) (k.drivers - i); give_clients = numbers_from (j + 1) (k.clients - j); quota = (k.clients - j) * 262144 }
+left k i j = record (blank k.cell) { give_drivers = numbers_from (i + 1) (k.drivers - i); give_clients = numbers_from (j + 1) (k.clients - j); quota = (k.clients - j) * LOGICAL }
 
 -- A new board: each driver has a seat and each client a pass, by rising numbers from 1 on, none of whom did anything, and there are no notes
 pub record IsOpened (k : Setup) (c : Crew) : Type 0 where

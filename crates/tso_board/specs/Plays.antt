@@ -1,5 +1,6 @@
 -- What each step on the table tells: of the step, the seat before, the number found and the seat after.
 use Rattle.std.specs.Prelude.{◌≡◌, ◌≢◌, true, false, ℕ, ◌+◌, ◌/◌, ◌^◌, ◌<◌}
+use Rattle.pd_types.specs.declared.stamp.TheConstants.{LOGICAL}
 use Rattle.atomic_table.specs.Table.{Me, Step}
 use Rattle.tso_model.specs.declared.view.View.{View}
 use Rattle.tso_model.specs.declared.step.WordStep.TheVariants.{LoadCell, ClaimTerm, SaveEnd, RaiseCursor, StoreLimit, ClearLimit, LoadLimit, ArmCount, AddArmed}
@@ -26,9 +27,9 @@ campaigned st m found n = (n ≡ (view_after ClaimTerm found m.0, m.1)) × (foun
 
 -- the cell was compared with the held window's and exchanged for a later end, which is the time in the step's second number
 abbrev pub saved : Play
-saved st m found n = (n ≡ (view_after (SaveEnd (st.second / 262144)) found m.0, m.1)) × (found < 2 ^ 63)
-    × (found ≡ packed (held m.0).hi (held m.0).term → Saved (st.second / 262144) m.0 (view_after (SaveEnd (st.second / 262144)) found m.0))
-    × (found ≢ packed (held m.0).hi (held m.0).term → Missed (cell_of found) m.0 (view_after (SaveEnd (st.second / 262144)) found m.0))
+saved st m found n = (n ≡ (view_after (SaveEnd (st.second / LOGICAL)) found m.0, m.1)) × (found < 2 ^ 63)
+    × (found ≡ packed (held m.0).hi (held m.0).term → Saved (st.second / LOGICAL) m.0 (view_after (SaveEnd (st.second / LOGICAL)) found m.0))
+    × (found ≢ packed (held m.0).hi (held m.0).term → Missed (cell_of found) m.0 (view_after (SaveEnd (st.second / LOGICAL)) found m.0))
 
 -- what was armed was added to the cursor
 abbrev pub drew : Play
@@ -53,4 +54,4 @@ limited st m found n = (n ≡ (view_after (LoadLimit ((st.word + 1) / 2)) found 
 
 -- the cursor was loaded, and this count armed where it fits
 abbrev pub armed_by : ℕ → Play
-armed_by count st m found n = (n ≡ (view_after (ArmCount count) found m.0, m.1)) × (found + 262144 < 2 ^ 64)
+armed_by count st m found n = (n ≡ (view_after (ArmCount count) found m.0, m.1)) × (found + LOGICAL < 2 ^ 64)

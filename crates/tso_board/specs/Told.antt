@@ -1,23 +1,19 @@
 -- What each call tells its driver or client: the view after its one step, by the number that the step found, and what is known of that number. The steps are those of tso_model (Steps); that another cell names a later term is the rule of a guarded cell (PD keeps its saved timestamp under a guarded write of etcd).
-use Rattle.std.specs.Prelude.{◌≡◌, ℕ, ◌+◌, ◌*◌, ◌^◌, ◌<◌, ◌≤◌, ◌⊎◌, Option, Some, None, cond, true, false, All}
+use Rattle.std.specs.Prelude.{◌≡◌, ℕ, ◌+◌, ◌*◌, ◌<◌, ◌≤◌, ◌⊎◌, Option, Some, None, cond, true, false, All}
 use Rattle.pd_types.specs.declared.oracle.Batch.{Batch}
 use Rattle.pd_types.specs.declared.oracle.CellWord.{CellWord}
 use Rattle.pd_types.specs.declared.oracle.Seen.{Seen}
 use Rattle.pd_types.specs.declared.oracle.Window.{Window}
+use Rattle.pd_types.specs.declared.stamp.TheConstants.{LOGICAL}
 use Rattle.tso_model.specs.declared.entries.Claim.{Claim}
 use Rattle.tso_model.specs.declared.view.View.{View}
-use Rattle.tso_model.specs.Words.{passes, packed, IsOpen}
+use Rattle.tso_model.specs.Words.{passes, packed, IsOpen, IsCell}
 use Rattle.tso_model.specs.History.{claims}
 use Rattle.tso_model.specs.Moves.{blank, joined}
 use Rattle.tso_model.specs.Steps.{held, hand, HasClaim, knows, claimed, saves, publishes, refused, adds, granted, batch_of}
 use Rattle.tso_model.specs.Sound.{IsUnseen}
 
 -- THE CELL
-
--- a cell in range: a saved time below 2^45 milliseconds, a term up to 262143
-pub record IsCell (c : CellWord) : Type 0 where
-  pub saved : c.saved < 2 ^ 45
-  pub term : c.term < 262144
 
 -- the cell that was found is at least the one known, in the term and in the saved time
 pub record Rises (known found : CellWord) : Type 0 where
@@ -53,7 +49,7 @@ pub record Saved (hi : ℕ) (old new : View) : Type 0 where
 
 -- a cursor may be raised by 0, or to at most the end of the held window
 abbrev pub MayRaise : ℕ → View → Type 0
-MayRaise at v = (at ≡ 0) ⊎ ((v.holds ≡ true) × HasClaim v × (at ≤ (held v).hi * 262144))
+MayRaise at v = (at ≡ 0) ⊎ ((v.holds ≡ true) × HasClaim v × (at ≤ (held v).hi * LOGICAL))
 
 -- THE LIMIT
 

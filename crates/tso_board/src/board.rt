@@ -1,4 +1,5 @@
 ghost use Rattle.std.specs.Prelude.{◌≡◌, ℕ, ◌+◌, ◌*◌, ◌<◌, ◌≤◌, [], ◌∷◌, false, IfOk, List};
+ghost use Rattle.pd_types.specs.declared.stamp.TheConstants.{LOGICAL};
 ghost use Rattle.tso_model.specs.Ledger.{Gathered, HasAll};
 ghost use Rattle.tso_model.specs.Moves.{first_words, gave_client, gave_driver, joined, new_client, new_driver};
 ghost use Rattle.tso_model.specs.Sound.{IsSetup};
@@ -59,7 +60,7 @@ pub(crate) fn split_client(table: &Words, base: &mut Seat<(), View>) -> Seat<(),
     requires sized { table.now.shared.table_id.words ≡ 1 + 2 * table.now.shared.key.drivers }
     requires live { base.old.me.0.spent ≡ false }
     requires some { (c : ℕ) × (cs : List ℕ) × (base.old.me.0.give_clients ≡ c ∷ cs) }
-    requires quota { 262144 ≤ base.old.me.0.quota }
+    requires quota { LOGICAL ≤ base.old.me.0.quota }
     requires armed { base.old.me.0.armed ≡ 0 }
     ensures board { base.new.table_id ≡ base.old.table_id }
     ensures same_board { result.table_id ≡ table.now.shared.table_id }

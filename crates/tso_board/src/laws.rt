@@ -2,6 +2,7 @@
 ghost use Rattle.std.specs.Prelude.{◌≡◌, ◌+◌, ◌*◌, ◌/◌, ◌<◌, ◌≤◌, ℕ, List, slice_index};
 ghost use mathlib.Core.Option.{some};
 ghost use lib.ListN.{get_elem?};
+ghost use Rattle.pd_types.specs.declared.stamp.TheConstants.{LOGICAL};
 ghost use Rattle.tso_model.specs.declared.view.Setup.{Setup};
 ghost use Rattle.tso_model.specs.declared.view.View.{View};
 ghost use Rattle.tso_model.specs.Moves.{numbers_from};
@@ -19,5 +20,5 @@ pub fn numbers_in_order_are_all()
 /// A draw leaves the cursor at most 64 milliseconds past the end that is saved at that moment, however
 /// many draws were refused before: so it is in each state that the rule of the words allows.
 pub fn each_draw_stays_in_bound()
-    ensures bound { (k : Setup) (words : List ℕ) (views : List View) (id : ℕ) (v : View) → Sound k words views → get_elem? views id ≡ some v → 0 < v.client → HasHand v → slice_index words (cursor_at (hand v).driver) + v.armed ≤ (slice_index words 0 / 262144 + 64) * 262144 }
+    ensures bound { (k : Setup) (words : List ℕ) (views : List View) (id : ℕ) (v : View) → Sound k words views → get_elem? views id ≡ some v → 0 < v.client → HasHand v → slice_index words (cursor_at (hand v).driver) + v.armed ≤ (slice_index words 0 / LOGICAL + 64) * LOGICAL }
 {}

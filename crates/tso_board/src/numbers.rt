@@ -1,6 +1,7 @@
 // Words of the board as numbers, and what the steps make of them.
-ghost use Rattle.std.specs.Prelude.{◌≡◌, ◌<◌, ◌^◌};
+ghost use Rattle.std.specs.Prelude.{◌≡◌, ◌<◌};
 ghost use Rattle.std.specs.Option.{ForSome};
+ghost use Rattle.pd_types.specs.declared.oracle.TheConstants.{CLOCK_END};
 ghost use Rattle.tso_board.specs.Kept.{hand_by, marks_of};
 
 use pd_types::LOGICAL;
@@ -8,7 +9,7 @@ use tso_model::{Claim, Limit};
 
 /// Whether the held window is marked as raised, once the cursor was raised to `at`.
 pub fn marks(holds: bool, marked: bool, latest: Option<Claim>, at: u64) -> bool
-    requires low { ForSome latest (λ c. c.window.lo < 2 ^ 45) }
+    requires low { ForSome latest (λ c. c.window.lo < CLOCK_END) }
     ensures value { result ≡ marks_of holds marked latest at }
 {
     match latest {

@@ -1,8 +1,7 @@
 // A new board with all its seats and passes.
 ghost use Rattle.std.specs.Prelude.{◌≡◌, ℕ, ◌+◌, ◌*◌, ◌<◌, [], All, map, IfOk, OnOk};
-ghost use Rattle.tso_model.specs.Moves.{first_view, numbers_from};
+ghost use Rattle.tso_model.specs.Moves.{first_view, numbers_from, client_view, driver_view};
 ghost use Rattle.tso_model.specs.Sound.{IsSetup};
-ghost use Rattle.tso_board.specs.Actors.{client_view, driver_view};
 ghost use Rattle.tso_board.specs.Opened.{IsOpened, left};
 ghost use Rattle.tso_board.specs.Passes.{pass_view};
 ghost use Rattle.tso_board.specs.Seats.{seat_view};

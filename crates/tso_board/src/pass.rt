@@ -1,5 +1,7 @@
 ghost use Rattle.std.specs.Prelude.{◌≡◌, ℕ, ◌+◌, ◌*◌, ◌<◌, ◌^◌, [], ◌≤◌, true, false, None, Some, IfErr, IfOk, OnOk, OnErr};
 ghost use Rattle.std.specs.Option.{ForSome};
+ghost use Rattle.pd_types.specs.declared.stamp.TheConstants.{LOGICAL};
+ghost use Rattle.pd_types.specs.declared.oracle.TheConstants.{CLOCK_END};
 ghost use Rattle.tso_model.specs.declared.step.WordStep.TheVariants.{ArmCount};
 ghost use Rattle.tso_model.specs.Steps.{May, hand, view_after};
 ghost use Rattle.tso_model.specs.Words.{cursor_at};
@@ -33,9 +35,9 @@ pub struct Pass {
     ghost in_hand: { seat.me.0.hand ≡ hand },
     ghost is_armed: { seat.me.0.armed ≡ armed },
     ghost granted: { seat.me.0.grants ≡ grants.items },
-    ghost quota: { seat.me.0.quota ≡ 262144 },
-    ghost few: { armed < 262144 },
-    ghost hand_fits: { ForSome hand (λ l. (2 * l.driver < seat.table_id.words) × (l.hi < 2 ^ 45) × (l.term < 262144)) },
+    ghost quota: { seat.me.0.quota ≡ LOGICAL },
+    ghost few: { armed < LOGICAL },
+    ghost hand_fits: { ForSome hand (λ l. (2 * l.driver < seat.table_id.words) × (l.hi < CLOCK_END) × (l.term < LOGICAL)) },
 }
 
 impl Pass {
@@ -48,7 +50,7 @@ impl Pass {
 
     /// The pass of a client that did nothing yet, with a client's quota.
     pub(crate) fn new(alloc: Global, seat: Seat<(), View>, number: u8) -> Pass
-        requires view { seat.me ≡ (record (blank seat.me.0.opening) { client = number; quota = 262144 }, []) }
+        requires view { seat.me ≡ (record (blank seat.me.0.opening) { client = number; quota = LOGICAL }, []) }
         requires positive { 0 < number }
         ensures view { pass_view result ≡ seat.me.0 }
         ensures board { result.seat.table_id ≡ seat.table_id }
@@ -145,7 +147,7 @@ impl Pass {
         requires hand { HasHand (pass_view self.old) }
         requires rest { (pass_view self.old).armed ≡ 0 }
         requires some { 0 < n }
-        requires most { n < 262144 }
+        requires most { n < LOGICAL }
         ensures board { IsPassOf self.new board.now }
         ensures armed { IfOk result (λ at. Armed n at (pass_view self.old) (pass_view self.new)) }
         ensures refused { IfErr result (λ at. NotArmed n at (pass_view self.old) (pass_view self.new)) }
@@ -217,7 +219,7 @@ fn load_armed<N: Count>(board: &Board, seat: &mut Seat<(), View>, word: usize, n
     requires within { word < seat.old.table_id.words }
     ensures board { seat.new.table_id ≡ seat.old.table_id }
     ensures step { seat.new.me ≡ (view_after (ArmCount n) result seat.old.me.0, seat.old.me.1) }
-    ensures low { result + 262144 < 2 ^ 64 }
+    ensures low { result + LOGICAL < 2 ^ 64 }
 {
     board.table.shared.load::<Arms<N>>(seat, word)
 }

@@ -1,5 +1,7 @@
-ghost use Rattle.std.specs.Prelude.{◌≡◌, ℕ, ◌+◌, ◌*◌, ◌<◌, ◌^◌, [], ◌≢◌, false, true, None, Some, IfErr, IfOk, IfSome, OnOk, OnErr, ◌≤◌};
+ghost use Rattle.std.specs.Prelude.{◌≡◌, ℕ, ◌+◌, ◌*◌, ◌<◌, [], ◌≢◌, false, true, None, Some, IfErr, IfOk, IfSome, OnOk, OnErr, ◌≤◌};
 ghost use Rattle.std.specs.Option.{ForSome};
+ghost use Rattle.pd_types.specs.declared.stamp.TheConstants.{LOGICAL};
+ghost use Rattle.pd_types.specs.declared.oracle.TheConstants.{CLOCK_END, LAST_TERM};
 ghost use Rattle.tso_board.specs.Actors.{IsDriverView};
 
 use crate::Board;
@@ -31,8 +33,8 @@ pub struct DriverSeat {
     ghost in_table: { 2 * number < seat.table_id.words },
     ghost newest: { seat.me.0.latest ≡ latest },
     ghost past: { seat.me.0.older ≡ older.items },
-    ghost cell_fits: { (cell.saved < 2 ^ 45) × (cell.term < 262144) },
-    ghost window_fits: { ForSome latest (λ c. (c.window.lo < 2 ^ 45) × (c.window.hi < 2 ^ 45) × (c.window.term < 262144)) },
+    ghost cell_fits: { (cell.saved < CLOCK_END) × (cell.term < LOGICAL) },
+    ghost window_fits: { ForSome latest (λ c. (c.window.lo < CLOCK_END) × (c.window.hi < CLOCK_END) × (c.window.term < LOGICAL)) },
     ghost claims_held: { holds ≡ true → latest ≢ None },
 }
 
@@ -40,7 +42,8 @@ impl DriverSeat {
     ghost use Rattle.tso_model.specs.Moves.{blank};
     ghost use Rattle.tso_model.specs.Steps.{held, HasClaim, raised};
     ghost use Rattle.tso_board.specs.Seats.{IsSeatOf, seat_view, seat_spare};
-    ghost use Rattle.tso_board.specs.Told.{Claimed, IsCell, MayPublish, MayRaise, Missed, Read, Saved, given_up, holding, told_limit};
+    ghost use Rattle.tso_board.specs.Told.{Claimed, MayPublish, MayRaise, Missed, Read, Saved, given_up, holding, told_limit};
+    ghost use Rattle.tso_model.specs.Words.{IsCell};
 
     /// The seat of a driver that did nothing yet.
     pub(crate) fn new(alloc: Global, seat: Seat<(), View>, number: u8, cell: CellWord) -> DriverSeat
@@ -85,7 +88,7 @@ impl DriverSeat {
     /// The held window, or none where no term is held.
     pub fn held(&self) -> Option<Window>
         ensures value { result ≡ holding (seat_view self.now) }
-        ensures range { IfSome result (λ w. w.hi < 2 ^ 45) }
+        ensures range { IfSome result (λ w. w.hi < CLOCK_END) }
     {
         let claim = self.latest?;
         self.holds.then_some(claim.window)
@@ -107,7 +110,7 @@ impl DriverSeat {
     /// is the term, or the other cell that was found.
     pub fn campaign(&mut self, board: &Board) -> Result<u64, CellWord>
         requires board { IsSeatOf self.old board.now }
-        requires terms { (seat_view self.old).cell.term < 262143 }
+        requires terms { (seat_view self.old).cell.term < LAST_TERM }
         requires spare { 0 < seat_spare self.old }
         ensures board { IsSeatOf self.new board.now }
         ensures claimed { IfOk result (λ term. Claimed term (seat_view self.old) (seat_view self.new)) }
@@ -154,7 +157,7 @@ impl DriverSeat {
         requires holds { (seat_view self.old).holds ≡ true }
         requires claim { HasClaim (seat_view self.old) }
         requires later { (held (seat_view self.old)).hi < hi }
-        requires clock { hi < 2 ^ 45 }
+        requires clock { hi < CLOCK_END }
         ensures board { IsSeatOf self.new board.now }
         ensures saved { OnOk result (Saved hi (seat_view self.old) (seat_view self.new)) }
         ensures missed { IfErr result (λ found. Missed found (seat_view self.old) (seat_view self.new)) }

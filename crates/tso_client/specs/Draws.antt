@@ -2,6 +2,7 @@
 use Rattle.std.specs.Prelude.{◌≡◌, ◌≢◌, ℕ, ◌/◌, ◌%◌, ◌<◌, ◌≤◌, ◌⊎◌, List, [], ◌∷◌, ◌++◌, Result, Ok, Err, true}
 use Rattle.pd_types.specs.declared.oracle.Batch.{Batch}
 use Rattle.pd_types.specs.declared.oracle.Seen.{Seen}
+use Rattle.pd_types.specs.declared.stamp.TheConstants.{LOGICAL}
 use Rattle.tso_model.specs.declared.entries.Grant.{Grant}
 use Rattle.tso_model.specs.declared.entries.Refusal.{Refusal}
 use Rattle.tso_model.specs.declared.view.View.{View}
@@ -56,15 +57,15 @@ pub record IsGranted (d n word : ℕ) (seen : Seen) (b : Batch) : Type 0 where
   pub count : b.count ≡ n
   pub within : b.count ≤ b.last
   pub driver : b.driver ≡ d
-  pub term : b.term ≡ word % 262144
+  pub term : b.term ≡ word % LOGICAL
   pub above : IsAbove seen b
 
 -- what an answer tells of the limit that was found at the driver, and of what the client had seen
 abbrev pub Tells : ℕ → ℕ → ℕ → Answer → Seen → Type 0
-Tells d n word (Ok b) seen = (word ≢ 0) × (seen.term ≤ word % 262144) × IsGranted d n word seen b
+Tells d n word (Ok b) seen = (word ≢ 0) × (seen.term ≤ word % LOGICAL) × IsGranted d n word seen b
 Tells d n word (Err NotLeader) seen = word ≡ 0
-Tells d n word (Err (Stale term)) seen = (word ≢ 0) × (word % 262144 < seen.term) × (term ≡ seen.term)
-Tells d n word (Err (Again at hi m)) seen = (word ≢ 0) × (seen.term ≤ word % 262144) × (hi ≡ word / 262144) × (m ≡ n) × (passes at hi n ≡ true)
+Tells d n word (Err (Stale term)) seen = (word ≢ 0) × (word % LOGICAL < seen.term) × (term ≡ seen.term)
+Tells d n word (Err (Again at hi m)) seen = (word ≢ 0) × (seen.term ≤ word % LOGICAL) × (hi ≡ word / LOGICAL) × (m ≡ n) × (passes at hi n ≡ true)
 
 -- A draw of n at the driver d: its batches, refusals, looks and sums gain what the answer says, and nothing else
 pub record Took (d n : ℕ) (answer : Answer) (old new : View) : Type 0 where

@@ -1,5 +1,6 @@
 // A whole draw.
 ghost use Rattle.std.specs.Prelude.{◌≡◌, ℕ, ◌+◌, ◌<◌, ◌≤◌, OnOk, OnErr};
+ghost use Rattle.pd_types.specs.declared.stamp.TheConstants.{LOGICAL};
 ghost use Rattle.tso_model.specs.Steps.{AtRest};
 ghost use Rattle.tso_board.specs.Boards.{setup_of};
 ghost use Rattle.tso_board.specs.Passes.{IsPassOf, pass_spare, pass_view};
@@ -27,7 +28,7 @@ pub enum DrawFault {
 pub fn take(pass: &mut Pass, board: &Board, driver: u8, n: u64) -> Result<Batch, DrawFault>
     requires board { IsPassOf pass.old board.now }
     requires driver { (0 < driver) × (driver ≤ (setup_of board.now).drivers) }
-    requires count { (0 < n) × (n < 262144) }
+    requires count { (0 < n) × (n < LOGICAL) }
     requires rest { AtRest (pass_view pass.old) }
     requires spare { 0 < pass_spare pass.old }
     ensures board { IsPassOf pass.new board.now }

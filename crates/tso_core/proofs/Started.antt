@@ -7,13 +7,13 @@ use Rattle.pd_types.specs.declared.oracle.Window.{Window}
 use Rattle.tso_model.specs.declared.view.View.{View}
 use Rattle.tso_model.specs.declared.view.Setup.{Setup}
 use Rattle.tso_model.specs.Words.{opening_claim}
-use Rattle.tso_model.specs.Moves.{blank, spent_view, numbers_from, first_words}
+use Rattle.tso_model.specs.Moves.{blank, spent_view, numbers_from, first_words, driver_view, client_view}
 use Rattle.tso_model.specs.Sound.{IsSetup}
 use Rattle.tso_model.specs.Ledger.{Recorded}
 use Rattle.tso_model.proofs.Moves.{starts, splits_driver, splits_client}
 use Rattle.tso_core.specs.declared.turn.Turn.{Turn}
 use Rattle.tso_core.specs.Due.{at_rest}
-use Rattle.tso_core.specs.Whole.{driver_view, client_view, base_view}
+use Rattle.tso_core.specs.Whole.{base_view}
 use Rattle.tso_core.specs.Sound.{DriverFits, IsClient, IsSound, waiting}
 use Rattle.tso_core.specs.Opened.{first_views, opened}
 

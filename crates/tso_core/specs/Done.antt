@@ -2,6 +2,7 @@
 use Rattle.std.specs.Prelude.{ℕ, ◌/◌, ◌%◌, max, true, false, List, [], ◌∷◌, ◌++◌, nat_eq, nat_lt, ◌==◌, if◌then◌else◌}
 use Rattle.pd_types.specs.declared.oracle.Batch.{Batch}
 use Rattle.pd_types.specs.declared.oracle.Window.{Window}
+use Rattle.pd_types.specs.declared.stamp.TheConstants.{LOGICAL}
 use Rattle.tso_model.specs.declared.view.View.{View}
 use Rattle.tso_model.specs.declared.step.WordStep.{WordStep}
 use Rattle.tso_model.specs.declared.step.WordStep.TheVariants.{LoadCell, ClaimTerm, SaveEnd, RaiseCursor, StoreLimit, ClearLimit, LoadLimit, ArmCount, AddArmed}
@@ -26,8 +27,8 @@ done_of StoreLimit n v = Published (held v).hi
 done_of ClearLimit n v = Published 0
 done_of (LoadLimit d) n v =
     if nat_eq n 0 then NoLimit
-    else if nat_lt (n % 262144) v.seen.term then Stale v.seen.term
-    else Looked (n % 262144) (n / 262144)
+    else if nat_lt (n % LOGICAL) v.seen.term then Stale v.seen.term
+    else Looked (n % LOGICAL) (n / LOGICAL)
 done_of (ArmCount k) n v = if passes n (hand v).hi k then Refused n (hand v).hi k else Armed n
 done_of AddArmed n v = if passes n (hand v).hi v.armed then Refused n (hand v).hi v.armed else Granted (batch_of n v)
 

@@ -1,5 +1,6 @@
 -- How a driver makes a step of each kind: on which word, and what it answers and does next by what the step found and did.
 use Rattle.std.specs.Prelude.{ℕ, ◌*◌, ◌<◌, ◌^◌, Bool, true, Option, None, Some, if◌then◌else◌}
+use Rattle.pd_types.specs.declared.stamp.TheConstants.{LOGICAL}
 use Rattle.tso_model.specs.declared.step.WordStep.{WordStep}
 use Rattle.tso_model.specs.declared.step.WordStep.TheVariants.{LoadCell, ClaimTerm, SaveEnd, RaiseCursor, StoreLimit, ClearLimit}
 use Rattle.tso_model.specs.Plan.{end_of}
@@ -19,7 +20,7 @@ driver_step (Read now) turn = Some LoadCell
 driver_step Campaign turn = Some ClaimTerm
 driver_step Save turn = Some (SaveEnd (end_of turn.next))
 driver_step (Probe now) turn = Some (RaiseCursor 0)
-driver_step Raise turn = Some (RaiseCursor (turn.next * 262144))
+driver_step Raise turn = Some (RaiseCursor (turn.next * LOGICAL))
 driver_step Publish turn = Some (if turn.publishes then StoreLimit else ClearLimit)
 driver_step Resign turn = Some ClearLimit
 driver_step kind turn = None

@@ -3,9 +3,9 @@ use Rattle.std.specs.Prelude.{◌+◌, List, [], ◌∷◌, ◌++◌, map, repli
 use Rattle.tso_model.specs.declared.view.View.{View}
 use Rattle.tso_model.specs.declared.view.Setup.{Setup}
 use Rattle.tso_model.specs.Words.{opening_claim}
-use Rattle.tso_model.specs.Moves.{numbers_from, first_words}
+use Rattle.tso_model.specs.Moves.{numbers_from, first_words, driver_view, client_view}
 use Rattle.tso_core.specs.Due.{at_rest}
-use Rattle.tso_core.specs.Whole.{Whole, base_view, driver_view, client_view}
+use Rattle.tso_core.specs.Whole.{Whole, base_view}
 
 -- the base, and each driver and client, which did nothing yet
 abbrev pub first_views : Setup → List View

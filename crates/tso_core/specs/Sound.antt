@@ -1,5 +1,8 @@
 -- The state invariant of the oracle: that of its words, views and lists, and where each actor stands.
-use Rattle.std.specs.Prelude.{◌≡◌, ◌⊎◌, ℕ, ◌+◌, ◌^◌, ◌<◌, ◌≤◌, true, false, List, length, get_or}
+use Rattle.std.specs.Prelude.{◌≡◌, ◌⊎◌, ℕ, ◌+◌, ◌<◌, ◌≤◌, true, false, List, length, get_or}
+use Rattle.pd_types.specs.Numbers.{IsOneOf}
+use Rattle.pd_types.specs.declared.stamp.TheConstants.{LOGICAL}
+use Rattle.pd_types.specs.declared.oracle.TheConstants.{CLOCK_END, LAST_TERM}
 use Rattle.tso_model.specs.declared.view.View.{View}
 use Rattle.tso_model.specs.declared.view.Setup.{Setup}
 use Rattle.tso_model.specs.Lists.{total, times}
@@ -19,7 +22,7 @@ use Rattle.tso_core.specs.Whole.{Whole, place_of_client, view_at, turn_at}
 pub record IsDriver (d : ℕ) (v : View) : Type 0 where
   pub live : v.spent ≡ false
   pub driver : v.driver ≡ d
-  pub quota : v.quota ≤ 262144
+  pub quota : v.quota ≤ LOGICAL
 
 -- the view of the client c, which knows no cell but the opening one
 pub record IsClient (k : Setup) (c : ℕ) (v : View) : Type 0 where
@@ -27,7 +30,7 @@ pub record IsClient (k : Setup) (c : ℕ) (v : View) : Type 0 where
   pub client : v.client ≡ c
   pub driver : v.driver ≡ 0
   pub cell : v.cell ≡ k.cell
-  pub quota : v.quota ≡ 262144
+  pub quota : v.quota ≡ LOGICAL
 
 -- a term is held with the mark that the cursor was raised to its start
 abbrev pub IsSettled : View → Type 0
@@ -36,15 +39,15 @@ IsSettled v = v.holds ≡ true → v.marked ≡ true
 -- a campaign is due: there is a term and a time left
 pub record MayCampaign (next : ℕ) (v : View) : Type 0 where
   pub settled : IsSettled v
-  pub term : v.cell.term < 262143
+  pub term : v.cell.term < LAST_TERM
   pub above : v.cell.saved < next
-  pub clock : end_of next < 2 ^ 45
+  pub clock : end_of next < CLOCK_END
 
 -- a save is due: the end is above the held one, and either this is the first save of the term or the window is marked
 pub record MaySave (next : ℕ) (v : View) : Type 0 where
   pub holds : v.holds ≡ true
   pub above : (held v).hi < end_of next
-  pub clock : end_of next < 2 ^ 45
+  pub clock : end_of next < CLOCK_END
   pub start : (v.marked ≡ true) ⊎ (((held v).lo ≡ (held v).hi) × ((held v).hi ≤ next))
 
 -- a raise is due: it goes at most to the held end, and the window is marked by then
@@ -72,7 +75,7 @@ pub record DriverFits (d : ℕ) (turn : Turn) (v : View) : Type 0 where
 pub record MayMake (w : Whole) (id : ℕ) (step : WordStep) : Type 0 where
   pub inside : id < length w.views
   pub live : (view_at w id).spent ≡ false
-  pub quota : (view_at w id).quota ≤ 262144
+  pub quota : (view_at w id).quota ≤ LOGICAL
   pub may : May w.setup step (view_at w id)
 
 -- how often the view at this place waits as a note
@@ -86,14 +89,12 @@ pub record IsNote (k : Setup) (views : List View) (id : ℕ) : Type 0 where
   pub copy : get_or views id spent_view ≡ record (blank k.cell) { seen = (get_or views id spent_view).seen }
 
 -- the driver is one of the oracle's
-pub record HasDriver (k : Setup) (d : ℕ) : Type 0 where
-  pub pos : 0 < d
-  pub low : d ≤ k.drivers
+abbrev pub HasDriver : Setup → ℕ → Type 0
+HasDriver k d = IsOneOf k.drivers d
 
 -- the client is one of the oracle's
-pub record HasClient (k : Setup) (c : ℕ) : Type 0 where
-  pub pos : 0 < c
-  pub low : c ≤ k.clients
+abbrev pub HasClient : Setup → ℕ → Type 0
+HasClient k c = IsOneOf k.clients c
 
 -- The invariant
 pub record IsSound (w : Whole) : Type 0 where

@@ -5,6 +5,8 @@ use Rattle.pd_types.specs.declared.oracle.Seen.{Seen}
 use Rattle.pd_types.specs.declared.oracle.Window.{Window}
 use Rattle.pd_types.specs.declared.oracle.Actor.{Actor}
 use Rattle.pd_types.specs.declared.oracle.Actor.TheVariants.{Driver, Client, Store}
+use Rattle.pd_types.specs.declared.stamp.TheConstants.{LOGICAL}
+use Rattle.pd_types.specs.declared.oracle.TheConstants.{LAST_TERM}
 use Rattle.tso_model.specs.declared.view.View.{View}
 use Rattle.tso_model.specs.declared.entries.Limit.{Limit}
 use Rattle.tso_model.specs.declared.step.WordStep.{WordStep}
@@ -47,7 +49,7 @@ goes reply due next publishes = record { reply = reply; turn = record { due = du
 -- a cell that was read at a moment: a campaign is next where there is a term and a time left
 abbrev pub read_decides : CellWord → ℕ → Decided
 read_decides cell now =
-    if nat_eq cell.term 262143 then ends TermsSpent
+    if nat_eq cell.term LAST_TERM then ends TermsSpent
     else if past_clock (lead_next cell.saved now) then ends ClockRange
     else goes (CellRead cell) Campaign (lead_next cell.saved now) true
 
@@ -80,13 +82,13 @@ save_of w d = decided (made w d (its_save w d)) d (save_decides (held (view_at w
 -- the cursor is raised, and a publish is next where the end was saved
 abbrev pub raise_decides : Turn → ℕ → Decided
 raise_decides turn found = record {
-  reply = Raised (max found (turn.next * 262144));
+  reply = Raised (max found (turn.next * LOGICAL));
   turn = if turn.publishes then record { due = Publish; next = 0; publishes = true } else at_rest;
 }
 
 -- the raise that is due for the driver
 abbrev pub its_raise : Whole → ℕ → WordStep
-its_raise w d = RaiseCursor ((turn_at w d).next * 262144)
+its_raise w d = RaiseCursor ((turn_at w d).next * LOGICAL)
 
 -- a driver raises its cursor
 abbrev pub raise_of : Whole → ℕ → Stepped
@@ -136,8 +138,8 @@ resign_of w d =
 abbrev pub looked_reply : ℕ → Seen → Reply
 looked_reply word seen =
     if nat_eq word 0 then NotLeader
-    else if nat_lt (word % 262144) seen.term then Stale seen.term
-    else Looked (word % 262144) (word / 262144)
+    else if nat_lt (word % LOGICAL) seen.term then Stale seen.term
+    else Looked (word % LOGICAL) (word / LOGICAL)
 
 -- a client loads the limit of a driver, and arms next where that isn't 0 nor of a term below the seen one
 abbrev pub look_of : Whole → ℕ → ℕ → Stepped

@@ -63,11 +63,3 @@ turned w d turn = record w { turns = slice_set w.turns d turn }
 -- the base once it has given all numbers
 abbrev pub base_view : Setup → View
 base_view k = blank k.cell
-
--- a driver that did nothing yet
-abbrev pub driver_view : Setup → ℕ → View
-driver_view k d = record (blank k.cell) { driver = d }
-
--- a client that did nothing yet, with the quota of a client
-abbrev pub client_view : Setup → ℕ → View
-client_view k c = record (blank k.cell) { client = c; quota = 262144 }

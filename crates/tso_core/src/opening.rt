@@ -1,10 +1,9 @@
 // A new oracle in memory.
 ghost use Rattle.std.specs.Prelude.{◌≡◌, ◌+◌, ◌≤◌, [], ◌++◌, map, replicate, IfOk, OnOk};
-ghost use Rattle.tso_model.specs.Moves.{numbers_from, first_words};
+ghost use Rattle.tso_model.specs.Moves.{numbers_from, first_words, driver_view, client_view};
 ghost use Rattle.tso_model.specs.Sound.{IsSetup};
 ghost use Rattle.tso_core.specs.Machine.{waits_in, whole_of};
 ghost use Rattle.tso_core.specs.Seated.{view_of};
-ghost use Rattle.tso_core.specs.Whole.{driver_view, client_view};
 ghost use Rattle.tso_core.specs.Opened.{first_views, opened};
 
 use crate::Turn;
@@ -12,12 +11,12 @@ use crate::machine::Machine;
 use crate::notes::Post;
 use crate::run::Run;
 use crate::seat::Seat;
-use pd_types::{CellWord, NoMemory, Window};
+use pd_types::{CellWord, LOGICAL, NoMemory, Window};
 use std::alloc::Global;
 use tso_model::{Setup, packed};
 
 // What each client may arm.
-const CLIENT_QUOTA: u64 = 262_144;
+const CLIENT_QUOTA: u64 = LOGICAL;
 
 impl Machine {
     /// All actors at rest.

@@ -1,5 +1,6 @@
 // Where a driver stands in a lead or a tick, and what its steps decide.
-ghost use Rattle.std.specs.Prelude.{◌≡◌, ◌<◌, ◌^◌};
+ghost use Rattle.std.specs.Prelude.{◌≡◌, ◌<◌};
+ghost use Rattle.pd_types.specs.declared.oracle.TheConstants.{CLOCK_END};
 ghost use Rattle.tso_core.specs.declared.reply.Due.TheVariants.{Publish};
 ghost use Rattle.tso_core.specs.Done.{follow};
 ghost use Rattle.tso_core.specs.Driving.{driver_step, IsInTime, decides_by};
@@ -8,13 +9,10 @@ ghost use Rattle.tso_core.specs.Steps.{read_decides, probe_decides};
 
 use crate::machine::Made;
 use crate::{Done, Due, Kind, Reply};
-use pd_types::{CellWord, LOGICAL};
+use pd_types::{CellWord, LAST_TERM, LOGICAL};
 use tso_model::{
     AHEAD_MS, WordStep, cell_in, is_past_clock, is_saving, next_of_lead, next_of_tick,
 };
-
-// The greatest term.
-const LAST_TERM: u64 = 262_143;
 
 /// How far a driver is in a lead or a tick.
 #[derive(Clone, Copy, Debug, Drop, PartialEq, Eq)]
@@ -50,7 +48,7 @@ impl Turn {
 
     /// The step on a word that a driver makes here for a kind; a client's kinds have none.
     pub fn step(self, kind: Kind) -> Option<WordStep>
-        requires clock { self.next < 2 ^ 45 }
+        requires clock { self.next < CLOCK_END }
         ensures value { result ≡ driver_step kind self }
     {
         match kind {
@@ -135,7 +133,7 @@ impl Decided {
 
 // After a read of the cell at a moment.
 fn after_read(cell: CellWord, now: u64) -> Decided
-    requires clock { cell.saved < 2 ^ 45 }
+    requires clock { cell.saved < CLOCK_END }
     ensures value { result ≡ read_decides cell now }
 {
     if cell.term == LAST_TERM {

@@ -2,6 +2,8 @@
 use Rattle.std.specs.Prelude.{◌≡◌, ℕ, ◌*◌, ◌<◌, ◌≤◌, ◌⊎◌, true, false, List, [], ◌∷◌, ◌++◌, map, Option, Some, None, cond, Contains}
 use Rattle.pd_types.specs.declared.oracle.CellWord.{CellWord}
 use Rattle.pd_types.specs.declared.oracle.Window.{Window}
+use Rattle.pd_types.specs.declared.stamp.TheConstants.{LOGICAL}
+use Rattle.pd_types.specs.declared.oracle.TheConstants.{LAST_TERM}
 use Rattle.tso_model.specs.declared.entries.Claim.{Claim}
 use Rattle.tso_model.specs.declared.entries.Start.{Start}
 use Rattle.tso_model.specs.declared.entries.Published.{Published}
@@ -41,12 +43,12 @@ held_after d (Resigned false) holds = holds
 
 -- where an answer says that the cursor was raised to: the start of the window won, or the moment moved to
 abbrev pub raises : DriverSaid → List ℕ
-raises (Led now (Won term lo hi)) = lo * 262144 ∷ []
+raises (Led now (Won term lo hi)) = lo * LOGICAL ∷ []
 raises (Led now (Beaten found)) = []
 raises (Led now (LeadLost found)) = []
 raises (Led now TermsSpent) = []
 raises (Led now LeadPast) = []
-raises (Ticked now (Moved next hi)) = next * 262144 ∷ []
+raises (Ticked now (Moved next hi)) = next * LOGICAL ∷ []
 raises (Ticked now Idle) = []
 raises (Ticked now (TickLost found)) = []
 raises (Ticked now TickPast) = []
@@ -93,7 +95,7 @@ start_at d at = record { driver = d; at = at }
 -- No window is lost: each stays or was made longer. One that is new has a term above the cell that was known before, and below 262144. All are the driver's own
 pub record ClaimsGrow (old new : View) : Type 0 where
   pub kept : (c : Claim) → Contains (claims old) c → (e : Claim) × Contains (claims new) e × Extends c e × (e.at ≡ c.at)
-  pub back : (e : Claim) → Contains (claims new) e → ((c : Claim) × Contains (claims old) c × (c.window.term ≡ e.window.term)) ⊎ ((old.cell.term < e.window.term) × (e.window.term < 262144))
+  pub back : (e : Claim) → Contains (claims new) e → ((c : Claim) × Contains (claims old) c × (c.window.term ≡ e.window.term)) ⊎ ((old.cell.term < e.window.term) × (e.window.term < LOGICAL))
   pub own : ((c : Claim) → Contains (claims old) c → c.window.driver ≡ old.driver) → (e : Claim) → Contains (claims new) e → e.window.driver ≡ old.driver
 
 -- the found cell has such a term, and is what the driver knows now
@@ -120,7 +122,7 @@ abbrev pub DriverTold : DriverSaid → View → View → Type 0
 DriverTold (Led now (Won term lo hi)) old new = HasWon now term lo hi new
 DriverTold (Led now (Beaten found)) old new = IsFoundAbove found new
 DriverTold (Led now (LeadLost found)) old new = IsFoundAbove found new
-DriverTold (Led now TermsSpent) old new = 262143 ≤ new.cell.term
+DriverTold (Led now TermsSpent) old new = LAST_TERM ≤ new.cell.term
 DriverTold (Led now LeadPast) old new = past_clock (lead_next new.cell.saved now) ≡ true
 DriverTold (Ticked now (Moved next hi)) old new = HasTicked now (Moved next hi) old new
 DriverTold (Ticked now Idle) old new = HasTicked now Idle old new

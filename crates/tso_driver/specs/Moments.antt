@@ -2,10 +2,13 @@
 use Rattle.std.specs.Prelude.{◌≡◌, ◌≢◌, ℕ, ◌+◌, ◌*◌, ◌<◌, ◌⊎◌, Bool, true, false, Option, Some, None}
 use Rattle.pd_types.specs.declared.oracle.CellWord.{CellWord}
 use Rattle.pd_types.specs.declared.oracle.Window.{Window}
+use Rattle.pd_types.specs.declared.stamp.TheConstants.{LOGICAL}
+use Rattle.pd_types.specs.declared.oracle.TheConstants.{LAST_TERM}
 use Rattle.tso_model.specs.declared.view.View.{View}
 use Rattle.tso_model.specs.Steps.{knows, claimed, saves, raised}
 use Rattle.tso_model.specs.Plan.{end_of, past_clock, lead_next, tick_next, saves_for}
-use Rattle.tso_board.specs.Told.{IsCell, Rises, Missed, holding, given_up, told_limit}
+use Rattle.tso_board.specs.Told.{Rises, Missed, holding, given_up, told_limit}
+use Rattle.tso_model.specs.Words.{IsCell}
 use Rattle.tso_driver.specs.declared.reply.LeadReply.{LeadReply}
 use Rattle.tso_driver.specs.declared.reply.LeadReply.TheVariants.{Won, Beaten, Lost as LeadLost, TermsSpent, ClockRange as LeadPast}
 use Rattle.tso_driver.specs.declared.reply.TickReply.{TickReply}
@@ -15,7 +18,7 @@ use Rattle.tso_driver.specs.declared.reply.TickReply.TheVariants.{Moved, Idle, L
 
 -- a lead goes on over this cell: its term isn't the last one, and the end that it would save is in the clock's range
 pub record MayCampaign (now : ℕ) (read : CellWord) : Type 0 where
-  pub term : read.term < 262143
+  pub term : read.term < LAST_TERM
   pub clock : past_clock (lead_next read.saved now) ≡ false
 
 -- the driver that read this cell and claimed the term after its
@@ -24,7 +27,7 @@ claims_next read v = claimed (knows read v)
 
 -- the same driver once it saved its window from `lo` on, raised its cursor, which it found at `cursor`, and published the end
 abbrev pub opens : ℕ → CellWord → ℕ → View → View
-opens lo read cursor v = told_limit (raised (lo * 262144) cursor (saves (end_of lo) (claims_next read v) (claims_next read v).latest))
+opens lo read cursor v = told_limit (raised (lo * LOGICAL) cursor (saves (end_of lo) (claims_next read v) (claims_next read v).latest))
 
 -- a driver that found this cell at its save, and gave its term up
 pub record GaveUp (found : CellWord) (old new : View) : Type 0 where
@@ -34,8 +37,8 @@ pub record GaveUp (found : CellWord) (old new : View) : Type 0 where
 
 -- what a lead answers over the cell that it read, and what it makes of what the driver knows
 abbrev pub LeadsOver : ℕ → CellWord → LeadReply → View → View → Type 0
-LeadsOver now read TermsSpent old new = (read.term ≡ 262143) × (new ≡ knows read old)
-LeadsOver now read LeadPast old new = (read.term < 262143) × (past_clock (lead_next read.saved now) ≡ true) × (new ≡ knows read old)
+LeadsOver now read TermsSpent old new = (read.term ≡ LAST_TERM) × (new ≡ knows read old)
+LeadsOver now read LeadPast old new = (read.term < LAST_TERM) × (past_clock (lead_next read.saved now) ≡ true) × (new ≡ knows read old)
 LeadsOver now read (Beaten found) old new = MayCampaign now read × (found ≢ read) × Missed found (knows read old) new
 LeadsOver now read (LeadLost found) old new = MayCampaign now read × GaveUp found (claims_next read old) new
 LeadsOver now read (Won term lo hi) old new = MayCampaign now read × (term ≡ read.term + 1) × (lo ≡ lead_next read.saved now) × (hi ≡ end_of lo) × (cursor : ℕ) × (new ≡ opens lo read cursor old)
@@ -69,7 +72,7 @@ pub record JustMoves (now : ℕ) (w : Window) (cursor next hi : ℕ) (old new : 
   pub stays : saves_for next w.hi ≡ false
   pub end : hi ≡ w.hi
   pub again : ℕ
-  pub view : new ≡ raised (next * 262144) again (probes cursor old)
+  pub view : new ≡ raised (next * LOGICAL) again (probes cursor old)
 
 -- a later end was saved over the driver's own cell, the cursor raised, and the end published
 pub record SavesAndMoves (now : ℕ) (w : Window) (cursor next hi : ℕ) (old new : View) : Type 0 where
@@ -77,7 +80,7 @@ pub record SavesAndMoves (now : ℕ) (w : Window) (cursor next hi : ℕ) (old ne
   pub end : hi ≡ end_of next
   pub own : Rises old.cell (record { saved = w.hi; term = w.term })
   pub again : ℕ
-  pub view : new ≡ told_limit (raised (next * 262144) again (saves (end_of next) (probes cursor old) old.latest))
+  pub view : new ≡ told_limit (raised (next * LOGICAL) again (saves (end_of next) (probes cursor old) old.latest))
 
 -- what a tick answers over the held window and the cursor that it found, and what it makes of what the driver knows
 abbrev pub TicksOver : ℕ → Window → ℕ → TickReply → View → View → Type 0

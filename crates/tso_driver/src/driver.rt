@@ -4,12 +4,9 @@ ghost use Rattle.tso_board.specs.Seats.{seat_view};
 ghost use Rattle.tso_driver.specs.Settled.{IsSettled};
 
 use crate::reply::{LeadReply, TickReply};
-use pd_types::{LOGICAL, NoMemory};
+use pd_types::{LAST_TERM, LOGICAL, NoMemory};
 use tso_board::{Board, DriverSeat};
 use tso_model::{AHEAD_MS, is_past_clock, is_saving, next_of_lead, next_of_tick};
-
-// The last term that a cell can have.
-const LAST_TERM: u64 = 262_143;
 
 /// A driver of the oracle on its seat. Between two calls it holds no term, or one whose window is
 /// open, with the cursor raised to its start.

@@ -11,7 +11,7 @@ use Rattle.pd_types.specs.declared.oracle.Window.{Window}
 use Rattle.tso_model.specs.declared.entries.Claim.{Claim}
 use Rattle.tso_model.specs.declared.plan.TheConstants.{AHEAD_MS}
 use Rattle.tso_model.specs.declared.step.WordStep.TheVariants.{LoadCell, RaiseCursor, StoreLimit, ClearLimit, LoadLimit, ArmCount, AddArmed}
-use Rattle.tso_model.specs.Words.{packed, cell_of, cell_word, window, IsOpen, passes}
+use Rattle.tso_model.specs.Words.{packed, cell_of, cell_word, window, IsOpen, passes, last_end}
 use Rattle.tso_model.specs.Moves.{spent_view}
 use Rattle.tso_model.specs.Plan.{end_of, lead_next, tick_next}
 use Rattle.tso_model.specs.Ledger.{longer_last, windows_after}
@@ -33,7 +33,7 @@ use Rattle.tso_core.specs.Says.{OfWindows, Stay, says}
 use Rattle.tso_core.specs.Notes.{tell_of, hear_of, heard_from, note_left}
 use Rattle.tso_core.specs.Sound.{IsSound, HasDriver, StandsAt}
 use Rattle.tso_core.specs.Asked.{HasActor}
-use Rattle.tso_laws.specs.Laws.{windows_told, windows_with, lengthened_by, longer_by, ended_at, last_end, driver_of}
+use Rattle.tso_laws.specs.Laws.{windows_told, windows_with, lengthened_by, longer_by, ended_at, driver_of}
 use Rattle.tso_laws.specs.WholeCalls.{DriverState, driver_state, Answers, cell_at, cursor_of, later_window, LeadTells, TickTells}
 use Rattle.tso_core.proofs.Bounds.{cell_fits, held_from}
 use Rattle.tso_core.proofs.Cases.{read_cases, goes_cases, look_cases}

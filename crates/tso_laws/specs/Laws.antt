@@ -5,12 +5,14 @@ use Rattle.pd_types.specs.declared.oracle.Actor.TheVariants.{Driver, Client, Sto
 use Rattle.pd_types.specs.declared.oracle.Batch.{Batch}
 use Rattle.pd_types.specs.declared.oracle.Seen.{Seen}
 use Rattle.pd_types.specs.declared.oracle.Window.{Window}
+use Rattle.pd_types.specs.declared.stamp.TheConstants.{LOGICAL}
 use Rattle.tso_model.specs.declared.entries.Claim.{Claim}
 use Rattle.tso_model.specs.declared.view.Setup.{Setup}
-use Rattle.tso_model.specs.Words.{opening_claim, cell_of, cursor_at, window, passes}
+use Rattle.tso_model.specs.Words.{opening_claim, cell_of, cursor_at, window, passes, last_end}
 use Rattle.tso_model.specs.Moves.{greater, nothing_seen}
 use Rattle.tso_model.specs.Ledger.{IsWindowList, IsDrawList, place}
 use Rattle.tso_model.specs.OneHistory.{IsAbove}
+use Rattle.tso_model.specs.declared.plan.TheConstants.{AHEAD_MS}
 use Rattle.tso_core.specs.declared.reply.Kind.{Kind}
 use Rattle.tso_core.specs.declared.reply.Due.{Due}
 use Rattle.tso_core.specs.declared.reply.Due.TheVariants.{Rest, Draw as DrawDue}
@@ -34,7 +36,7 @@ pub record AreLedger (w : Whole) : Type 0 where
 
 -- a cursor stands at most 64 milliseconds past the saved end, however many draws were refused
 abbrev pub AreBounded : Whole → Type 0
-AreBounded w = (d : ℕ) → HasDriver w.setup d → slice_index w.words (cursor_at d) ≤ ((cell_of (slice_index w.words 0)).saved + 64) * 262144
+AreBounded w = (d : ℕ) → HasDriver w.setup d → slice_index w.words (cursor_at d) ≤ ((cell_of (slice_index w.words 0)).saved + 64) * LOGICAL
 
 -- A batch that a client gets is above all that it had seen, notes included, and is kept among the others
 pub record IsGranted (w : Whole) (c : ℕ) (b : Batch) : Type 0 where
@@ -161,15 +163,9 @@ pub record IsUpTo (a b : Seen) : Type 0 where
   pub term : a.term ≤ b.term
   pub last : a.last ≤ b.last
 
--- the end of the last window
-abbrev pub last_end : List Window → ℕ
-last_end [] = 0
-last_end (w ∷ []) = w.hi
-last_end (w ∷ x ∷ ws) = last_end (x ∷ ws)
-
 -- a window that ends here now: once it is open its start stays; else it begins 3,000 milliseconds before its end, or where it stood where that is later
 abbrev pub ended_at : ℕ → Window → Window
-ended_at hi w = record w { lo = if nat_lt w.lo w.hi then w.lo else max (hi - 3000) w.lo; hi = hi }
+ended_at hi w = record w { lo = if nat_lt w.lo w.hi then w.lo else max (hi - AHEAD_MS) w.lo; hi = hi }
 
 -- the window, made longer where it is this driver's and ends below this end
 abbrev pub longer_by : ℕ → ℕ → Window → Window

@@ -1,15 +1,18 @@
 -- What a whole call of an actor at rest answers, exactly when, and what it leaves: over the words as they stand before it, without a step between (PD documentation, "Timestamp Oracle"; the answers are own choice).
-use Rattle.std.specs.Prelude.{◌≡◌, ◌≢◌, ℕ, ◌+◌, ◌*◌, ◌/◌, ◌%◌, ◌^◌, ◌<◌, ◌≤◌, max, Bool, true, false, Some, None, List, [], ◌∷◌, ◌++◌, map, slice_index}
+use Rattle.std.specs.Prelude.{◌≡◌, ◌≢◌, ℕ, ◌+◌, ◌*◌, ◌/◌, ◌%◌, ◌<◌, ◌≤◌, max, Bool, true, false, Some, None, List, [], ◌∷◌, ◌++◌, map, slice_index}
 use Rattle.pd_types.specs.declared.oracle.Actor.{Actor}
 use Rattle.pd_types.specs.declared.oracle.Actor.TheVariants.{Driver, Client}
 use Rattle.pd_types.specs.declared.oracle.Batch.{Batch}
 use Rattle.pd_types.specs.declared.oracle.CellWord.{CellWord}
 use Rattle.pd_types.specs.declared.oracle.Seen.{Seen}
 use Rattle.pd_types.specs.declared.oracle.Window.{Window}
+use Rattle.pd_types.specs.declared.stamp.TheConstants.{LOGICAL}
+use Rattle.pd_types.specs.declared.oracle.TheConstants.{CLOCK_END, LAST_TERM}
 use Rattle.tso_model.specs.Words.{packed, cell_of, limit_at, cursor_at, window, passes}
 use Rattle.tso_model.specs.Plan.{lead_next, tick_next}
 use Rattle.tso_model.specs.Steps.{held, hand}
 use Rattle.tso_model.specs.Ledger.{place}
+use Rattle.tso_model.specs.declared.plan.TheConstants.{AHEAD_MS}
 use Rattle.tso_core.specs.declared.reply.Kind.{Kind}
 use Rattle.tso_core.specs.declared.reply.Kind.TheVariants.{Read, Campaign, Save, Probe, Raise, Publish, Resign, Look, Arm, Draw}
 use Rattle.tso_core.specs.declared.reply.Due.TheVariants.{Rest}
@@ -86,12 +89,12 @@ NotLeads w r = r ≡ record { reply = NotLeading; after = w }
 -- the state of a driver that won the next term, with a window from this start on for 3,000 milliseconds
 abbrev pub winner : Whole → ℕ → ℕ → DriverState
 winner w d start = record {
-  cell = record { saved = start + 3000; term = (cell_at w).term + 1 };
-  limit = packed (start + 3000) ((cell_at w).term + 1);
-  cursor = max (cursor_of w d) (start * 262144);
-  windows = w.windows ++ window ((cell_at w).term + 1) d start (start + 3000) ∷ [];
+  cell = record { saved = start + AHEAD_MS; term = (cell_at w).term + 1 };
+  limit = packed (start + AHEAD_MS) ((cell_at w).term + 1);
+  cursor = max (cursor_of w d) (start * LOGICAL);
+  windows = w.windows ++ window ((cell_at w).term + 1) d start (start + AHEAD_MS) ∷ [];
   holds = true;
-  window = window ((cell_at w).term + 1) d start (start + 3000);
+  window = window ((cell_at w).term + 1) d start (start + AHEAD_MS);
 }
 
 -- where a lead begins at this moment
@@ -100,15 +103,15 @@ start_of w now = lead_next (cell_at w).saved now
 
 -- what a lead answers that wins from this start on
 abbrev pub won_from : Whole → ℕ → Reply
-won_from w start = Won ((cell_at w).term + 1) start (start + 3000)
+won_from w start = Won ((cell_at w).term + 1) start (start + AHEAD_MS)
 
 -- A lead of a driver at rest. Its start is the moment, or one millisecond past the saved time where that is later. The last term and then the end of the clock refuse it, and change nothing of this; else it wins
 pub record LeadTells (w : Whole) (d now : ℕ) : Type 0 where
-  pub spent : (cell_at w).term ≡ 262143
+  pub spent : (cell_at w).term ≡ LAST_TERM
       → Answers w d (Read now ∷ []) TermsSpent (driver_state w d) (lead_of w d now)
-  pub clock : (cell_at w).term ≢ 262143 → 2 ^ 45 ≤ start_of w now + 3000
+  pub clock : (cell_at w).term ≢ LAST_TERM → CLOCK_END ≤ start_of w now + AHEAD_MS
       → Answers w d (Read now ∷ []) ClockRange (driver_state w d) (lead_of w d now)
-  pub won : (cell_at w).term ≢ 262143 → start_of w now + 3000 < 2 ^ 45
+  pub won : (cell_at w).term ≢ LAST_TERM → start_of w now + AHEAD_MS < CLOCK_END
       → Answers w d (Read now ∷ Campaign ∷ Save ∷ Raise ∷ Publish ∷ []) (won_from w (start_of w now))
       (winner w d (start_of w now)) (lead_of w d now)
 
@@ -122,18 +125,18 @@ Goes w d now next = tick_next (cursor_of w d) (held (view_at w d)).hi now ≡ So
 
 -- the state of a driver that raised its cursor to this time
 abbrev pub mover : Whole → ℕ → ℕ → DriverState
-mover w d next = record (driver_state w d) { cursor = max (cursor_of w d) (next * 262144) }
+mover w d next = record (driver_state w d) { cursor = max (cursor_of w d) (next * LOGICAL) }
 
 -- the driver's latest window, with its end 3,000 milliseconds past this time
 abbrev pub later_window : Whole → ℕ → ℕ → Window
-later_window w d next = record (held (view_at w d)) { hi = next + 3000 }
+later_window w d next = record (held (view_at w d)) { hi = next + AHEAD_MS }
 
 -- the state of a driver that made its window longer, which is the last of these windows, and raised its cursor
 abbrev pub saver : Whole → ℕ → ℕ → List Window → DriverState
 saver w d next older = record {
-  cell = record { saved = next + 3000; term = (held (view_at w d)).term };
-  limit = packed (next + 3000) (held (view_at w d)).term;
-  cursor = max (cursor_of w d) (next * 262144);
+  cell = record { saved = next + AHEAD_MS; term = (held (view_at w d)).term };
+  limit = packed (next + AHEAD_MS) (held (view_at w d)).term;
+  cursor = max (cursor_of w d) (next * LOGICAL);
   windows = older ++ later_window w d next ∷ [];
   holds = true;
   window = later_window w d next;
@@ -159,13 +162,13 @@ pub record TickTells (w : Whole) (d now : ℕ) : Type 0 where
   pub moved : (view_at w d).holds ≡ true → (next : ℕ) → Goes w d now next → next + 1 < end_at w d
       → Answers w d (Probe now ∷ Raise ∷ []) (Moved next (end_at w d)) (mover w d next) (tick_of w d now)
   pub clock : (view_at w d).holds ≡ true → (next : ℕ) → Goes w d now next → end_at w d ≤ next + 1
-      → 2 ^ 45 ≤ next + 3000 → Answers w d (Probe now ∷ []) ClockRange (driver_state w d) (tick_of w d now)
+      → CLOCK_END ≤ next + AHEAD_MS → Answers w d (Probe now ∷ []) ClockRange (driver_state w d) (tick_of w d now)
   pub lost : (view_at w d).holds ≡ true → (next : ℕ) → Goes w d now next → end_at w d ≤ next + 1
-      → next + 3000 < 2 ^ 45 → ¬ IsOwn w d
+      → next + AHEAD_MS < CLOCK_END → ¬ IsOwn w d
       → Answers w d (Probe now ∷ Save ∷ Publish ∷ []) (Lost (cell_at w)) (loser w d) (tick_of w d now)
   pub saved : (view_at w d).holds ≡ true → (next : ℕ) → Goes w d now next → end_at w d ≤ next + 1
-      → next + 3000 < 2 ^ 45 → IsOwn w d → (older : List Window) × LastIsOwn w d older
-      × Answers w d (Probe now ∷ Save ∷ Raise ∷ Publish ∷ []) (Moved next (next + 3000)) (saver w d next older)
+      → next + AHEAD_MS < CLOCK_END → IsOwn w d → (older : List Window) × LastIsOwn w d older
+      × Answers w d (Probe now ∷ Save ∷ Raise ∷ Publish ∷ []) (Moved next (next + AHEAD_MS)) (saver w d next older)
       (tick_of w d now)
 
 -- A resignation of a driver at rest
@@ -202,23 +205,23 @@ pub record Draws (w : Whole) (c d : ℕ) (kinds : List Kind) (reply : Reply) (st
 
 -- the n timestamps behind the cursor of the driver d, in the term of its limit
 abbrev pub next_batch : Whole → ℕ → ℕ → Batch
-next_batch w d n = record { term = limit_of w d % 262144; driver = d; last = cursor_of w d + n; count = n }
+next_batch w d n = record { term = limit_of w d % LOGICAL; driver = d; last = cursor_of w d + n; count = n }
 
 -- the state with this batch granted
 abbrev pub grantee : Whole → ℕ → ℕ → DrawState
 grantee w d n = record {
   cursor = cursor_of w d + n;
   batches = place (next_batch w d n) w.batches;
-  seen = record { term = limit_of w d % 262144; last = cursor_of w d + n };
+  seen = record { term = limit_of w d % LOGICAL; last = cursor_of w d + n };
 }
 
 -- the term of the driver's limit
 abbrev pub limit_term : Whole → ℕ → ℕ
-limit_term w d = limit_of w d % 262144
+limit_term w d = limit_of w d % LOGICAL
 
 -- the end of the driver's limit
 abbrev pub limit_end : Whole → ℕ → ℕ
-limit_end w d = limit_of w d / 262144
+limit_end w d = limit_of w d / LOGICAL
 
 -- A draw of n by a client at rest: refused where the driver has no limit, then where the limit's term is below the seen one, then where n more than the cursor pass the limit's end or the logical part, each without a change of this; else it gets the next n timestamps
 pub record TakeTells (w : Whole) (c d n : ℕ) : Type 0 where
@@ -275,12 +278,12 @@ NamesWord u d (Saved hi) = hi ≡ (cell_at u).saved
 NamesWord u d (Lost cell) = cell ≡ cell_at u
 NamesWord u d (Probed cursor) = cursor ≡ cursor_of u d
 NamesWord u d (Raised cursor) = cursor ≡ cursor_of u d
-NamesWord u d (Published hi) = hi ≡ limit_of u d / 262144
+NamesWord u d (Published hi) = hi ≡ limit_of u d / LOGICAL
 NamesWord u d _ = Unit {0}
 
 -- a single step of a client answers with the limit of this driver, or with its cursor, as it stands after the step
 abbrev pub NamesLimit : Whole → ℕ → Reply → Type 0
-NamesLimit u d (Looked term hi) = (term ≡ limit_of u d % 262144) × (hi ≡ limit_of u d / 262144)
+NamesLimit u d (Looked term hi) = (term ≡ limit_of u d % LOGICAL) × (hi ≡ limit_of u d / LOGICAL)
 NamesLimit u d (Armed at) = at ≡ cursor_of u d
 NamesLimit u d _ = Unit {0}
 

@@ -1,6 +1,7 @@
 -- What a whole run did, as lists that only grow (but for the newest window, which a save makes longer), and the fact that the views hold just these entries.
 use Rattle.std.specs.Prelude.{◌≡◌, ℕ, ◌+◌, ◌*◌, ◌<◌, ◌≤◌, max, ◌⊎◌, List, [], ◌∷◌, ◌++◌, option_to_list, cond, ◌==◌, Contains}
 use Rattle.pd_types.specs.declared.oracle.CellWord.{CellWord}
+use Rattle.pd_types.specs.declared.stamp.TheConstants.{LOGICAL}
 use Rattle.tso_model.specs.declared.entries.Grant.{Grant}
 use Rattle.tso_model.specs.declared.entries.Claim.{Claim}
 use Rattle.tso_model.specs.declared.entries.Start.{Start}
@@ -74,7 +75,7 @@ pub record Names (h : History) (d term hi : ℕ) : Type 0 where
   pub driver_is : claim.window.driver ≡ d
   pub open_is : IsOpen claim.window
   pub ends : hi ≤ claim.window.hi
-  pub raised : claim.window.lo * 262144 ≤ greatest d h.starts
+  pub raised : claim.window.lo * LOGICAL ≤ greatest d h.starts
 
 -- what a save or a later time makes of a window
 pub record Extends (c e : Claim) : Type 0 where

@@ -4,6 +4,8 @@ use mathlib.Core.Option.{some}
 use lib.ListN.{get_elem?}
 use Rattle.pd_types.specs.declared.oracle.Batch.{Batch}
 use Rattle.pd_types.specs.declared.oracle.Window.{Window}
+use Rattle.pd_types.specs.declared.stamp.TheConstants.{LOGICAL}
+use Rattle.pd_types.specs.declared.oracle.TheConstants.{CLOCK_END}
 use Rattle.tso_model.specs.declared.entries.Claim.{Claim}
 use Rattle.tso_model.specs.declared.entries.Grant.{Grant}
 use Rattle.tso_model.specs.declared.view.View.{View}
@@ -34,17 +36,17 @@ DriverSplitKeepsLists k = (words : List ℕ) (views : List View) (id d : ℕ) (d
 
 -- splitting a client off keeps the rule, where a client's quota is left and nothing is armed
 abbrev pub ClientSplitKeeps : Setup → Type 0
-ClientSplitKeeps k = (words : List ℕ) (views : List View) (id d : ℕ) (ds : List ℕ) (v : View) → Sound k words views → get_elem? views id ≡ some v → v.spent ≡ false → v.give_clients ≡ d ∷ ds → 262144 ≤ v.quota → v.armed ≡ 0
+ClientSplitKeeps k = (words : List ℕ) (views : List View) (id d : ℕ) (ds : List ℕ) (v : View) → Sound k words views → get_elem? views id ≡ some v → v.spent ≡ false → v.give_clients ≡ d ∷ ds → LOGICAL ≤ v.quota → v.armed ≡ 0
     → Sound k words (slice_set views id (gave_client v) ++ new_client v ∷ [])
 
 -- each part by itself, over the same history
 abbrev pub ClientSplitKeepsParts : Setup → Type 0
-ClientSplitKeepsParts k = (words : List ℕ) (views : List View) (h : History) (id d : ℕ) (ds : List ℕ) (v : View) → get_elem? views id ≡ some v → v.spent ≡ false → v.give_clients ≡ d ∷ ds → 262144 ≤ v.quota → v.armed ≡ 0
+ClientSplitKeepsParts k = (words : List ℕ) (views : List View) (h : History) (id d : ℕ) (ds : List ℕ) (v : View) → get_elem? views id ≡ some v → v.spent ≡ false → v.give_clients ≡ d ∷ ds → LOGICAL ≤ v.quota → v.armed ≡ 0
     → KeepsEach k words views h words (slice_set views id (gave_client v) ++ new_client v ∷ []) h
 
 -- the same with the windows and batches of the run, which stay
 abbrev pub ClientSplitKeepsLists : Setup → Type 0
-ClientSplitKeepsLists k = (words : List ℕ) (views : List View) (id d : ℕ) (ds : List ℕ) (v : View) (ws : List Window) (bs : List Batch) → Recorded k words views ws bs → get_elem? views id ≡ some v → v.spent ≡ false → v.give_clients ≡ d ∷ ds → 262144 ≤ v.quota → v.armed ≡ 0
+ClientSplitKeepsLists k = (words : List ℕ) (views : List View) (id d : ℕ) (ds : List ℕ) (v : View) (ws : List Window) (bs : List Batch) → Recorded k words views ws bs → get_elem? views id ≡ some v → v.spent ≡ false → v.give_clients ≡ d ∷ ds → LOGICAL ≤ v.quota → v.armed ≡ 0
     → Recorded k words (slice_set views id (gave_client v) ++ new_client v ∷ []) ws bs
 
 -- making a note keeps the rule
@@ -80,17 +82,17 @@ JoinKeepsLists k = (words : List ℕ) (views : List View) (id other : ℕ) (v w 
 -- the cell word is a cell in range, and at least the cell that any view knows, in the term and in the saved time
 abbrev pub CellOnlyRises : Setup → Type 0
 CellOnlyRises k = (words : List ℕ) (views : List View) (h : History) (id : ℕ) (v : View) → PartA k words views h → get_elem? views id ≡ some v → v.spent ≡ false
-    → (slice_index words 0 < 2 ^ 63) × (slice_index words 0 / 262144 < 2 ^ 45) × (v.cell.term ≤ slice_index words 0 % 262144) × (v.cell.saved ≤ slice_index words 0 / 262144)
+    → (slice_index words 0 < 2 ^ 63) × (slice_index words 0 / LOGICAL < CLOCK_END) × (v.cell.term ≤ slice_index words 0 % LOGICAL) × (v.cell.saved ≤ slice_index words 0 / LOGICAL)
 
 -- a campaign that finds another cell finds a term above all of the driver's own
 abbrev pub BeatenByAnother : Setup → Type 0
 BeatenByAnother k = (words : List ℕ) (views : List View) (h : History) (id : ℕ) (v : View) → PartA k words views h → get_elem? views id ≡ some v → 0 < v.driver
-    → slice_index words 0 ≢ cell_word v.cell → IsAbove k v (slice_index words 0 % 262144)
+    → slice_index words 0 ≢ cell_word v.cell → IsAbove k v (slice_index words 0 % LOGICAL)
 
 -- a save that finds another cell finds a term above all of the driver's own
 abbrev pub LostToAnother : Setup → Type 0
 LostToAnother k = (words : List ℕ) (views : List View) (h : History) (id : ℕ) (v : View) (c : Claim) → PartA k words views h → get_elem? views id ≡ some v → 0 < v.driver → v.latest ≡ Some c
-    → slice_index words 0 ≢ packed c.window.hi c.window.term → IsAbove k v (slice_index words 0 % 262144)
+    → slice_index words 0 ≢ packed c.window.hi c.window.term → IsAbove k v (slice_index words 0 % LOGICAL)
 
 -- a batch behind the cursor of the limit in hand is above all that the client had seen, by term and by number, and the cursor's word doesn't wrap
 abbrev pub DrawsUnseen : Setup → Type 0
@@ -100,7 +102,7 @@ DrawsUnseen k = (words : List ℕ) (views : List View) (h : History) (id : ℕ) 
 -- a draw leaves the cursor at most 64 milliseconds past the end that is saved at that moment
 abbrev pub DrawsInBound : Setup → Type 0
 DrawsInBound k = (words : List ℕ) (views : List View) (h : History) (id : ℕ) (v : View) → PartA k words views h → PartB k words views h → get_elem? views id ≡ some v → 0 < v.client → HasHand v
-    → slice_index words (cursor_at (hand v).driver) + v.armed ≤ (slice_index words 0 / 262144 + 64) * 262144
+    → slice_index words (cursor_at (hand v).driver) + v.armed ≤ (slice_index words 0 / LOGICAL + 64) * LOGICAL
 
 -- the batches of a sound state form the draw list of its windows
 abbrev pub DrawnInWindows : Setup → Type 0
@@ -147,4 +149,4 @@ IsSetupOf k = ((0 < k.drivers) × (k.drivers ≤ 7)) × ((0 < k.clients) × (k.c
 -- a cursor stands at most 64 milliseconds past the saved end, whatever was drawn and refused
 abbrev pub CursorsInBound : Setup → Type 0
 CursorsInBound k = (words : List ℕ) (views : List View) (h : History) → PartA k words views h → PartB k words views h → (d : ℕ) → 0 < d → d ≤ k.drivers
-    → slice_index words (cursor_at d) ≤ (slice_index words 0 / 262144 + 64) * 262144
+    → slice_index words (cursor_at d) ≤ (slice_index words 0 / LOGICAL + 64) * LOGICAL

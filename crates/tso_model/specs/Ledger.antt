@@ -18,6 +18,7 @@ use Rattle.tso_model.specs.History.{History, Names, claims}
 use mathlib.Core.Option.{some}
 use lib.ListN.{get_elem?}
 use Rattle.pd_types.specs.declared.oracle.Window.{Window}
+use Rattle.pd_types.specs.declared.stamp.TheConstants.{LOGICAL}
 use Rattle.tso_model.specs.declared.step.WordStep.{WordStep}
 use Rattle.tso_model.specs.declared.step.WordStep.TheVariants.{LoadCell, ClaimTerm, SaveEnd, RaiseCursor, StoreLimit, ClearLimit, LoadLimit, ArmCount, AddArmed}
 use Rattle.tso_model.specs.Steps.{word_of, word_after, view_after, new_claim, saved_window, held, hand, batch_of}
@@ -78,7 +79,7 @@ pub record GatheredWindows (k : Setup) (words : List ℕ) (h : History) (v : Vie
   pub added : (f : Added → ℕ) → total f v.added ≡ total f h.added
   pub cell : slice_index words 0 ≡ packed h.newest.window.hi h.newest.window.term
   pub known : (v.cell.term ≤ h.newest.window.term) × (v.cell.saved ≤ h.newest.window.hi)
-  pub named : All (λ (p : Published). p.word ≢ 0 → Names h p.driver (p.word % 262144) (p.word / 262144)) h.published
+  pub named : All (λ (p : Published). p.word ≢ 0 → Names h p.driver (p.word % LOGICAL) (p.word / LOGICAL)) h.published
 
 -- What parts A and B tell then: its batches are those of the whole run, and form a draw list over the windows
 pub record GatheredBatches (h : History) (v : View) : Type 0 where

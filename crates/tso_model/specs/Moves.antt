@@ -2,6 +2,7 @@
 use Rattle.std.specs.Prelude.{ℕ, zero, suc, ◌+◌, ◌-◌, ◌*◌, true, false, List, [], ◌∷◌, ◌++◌, None, replicate, max, cond, ◌==◌, nat_lt}
 use Rattle.pd_types.specs.declared.oracle.CellWord.{CellWord}
 use Rattle.pd_types.specs.declared.oracle.Seen.{Seen}
+use Rattle.pd_types.specs.declared.stamp.TheConstants.{LOGICAL}
 use Rattle.tso_model.specs.declared.view.View.{View}
 use Rattle.tso_model.specs.declared.view.Setup.{Setup}
 use Rattle.tso_model.specs.Words.{packed}
@@ -51,7 +52,7 @@ numbers_from first (suc n) = first ∷ numbers_from (first + 1) n
 
 -- the view that a new oracle has: all numbers to give, and the whole quota
 abbrev pub first_view : Setup → View
-first_view k = record (blank k.cell) { give_drivers = numbers_from 1 k.drivers; give_clients = numbers_from 1 k.clients; quota = k.clients * 262144 }
+first_view k = record (blank k.cell) { give_drivers = numbers_from 1 k.drivers; give_clients = numbers_from 1 k.clients; quota = k.clients * LOGICAL }
 
 -- the words of a new oracle: the opening cell, no limit, and cursors at 0
 abbrev pub first_words : Setup → List ℕ
@@ -77,11 +78,19 @@ new_driver v = record (blank v.opening) { driver = head_of v.give_drivers }
 
 -- the view that splits a client off
 abbrev pub gave_client : View → View
-gave_client v = record v { give_clients = rest_of v.give_clients; quota = v.quota - 262144 }
+gave_client v = record v { give_clients = rest_of v.give_clients; quota = v.quota - LOGICAL }
 
 -- the client that is split off, with the quota of a client
 abbrev pub new_client : View → View
-new_client v = record (blank v.opening) { client = head_of v.give_clients; quota = 262144 }
+new_client v = record (blank v.opening) { client = head_of v.give_clients; quota = LOGICAL }
+
+-- the view of a driver of this oracle that did nothing yet
+abbrev pub driver_view : Setup → ℕ → View
+driver_view k d = record (blank k.cell) { driver = d }
+
+-- the view of a client of this oracle that did nothing yet, with the quota of a client
+abbrev pub client_view : Setup → ℕ → View
+client_view k c = record (blank k.cell) { client = c; quota = LOGICAL }
 
 -- the note that a client makes: what the client has seen, and nothing else
 abbrev pub new_note : View → View

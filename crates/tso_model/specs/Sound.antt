@@ -1,8 +1,10 @@
 -- The state invariant, in three parts over one history: A speaks of numbers, windows and limits, B of batches and what callers have seen, C of refusals, found cursors and silence. It holds between any two steps of any actors.
-use Rattle.std.specs.Prelude.{◌≡◌, ◌≢◌, ℕ, ◌+◌, ◌-◌, ◌*◌, ◌/◌, ◌%◌, ◌^◌, ◌<◌, ◌≤◌, ◌⊎◌, true, false, List, [], ◌∷◌, ◌++◌, length, map, slice_index, slice_set, None, IfSome, All, Contains, cond, ◌==◌}
+use Rattle.std.specs.Prelude.{◌≡◌, ◌≢◌, ℕ, ◌+◌, ◌-◌, ◌*◌, ◌/◌, ◌%◌, ◌<◌, ◌≤◌, ◌⊎◌, true, false, List, [], ◌∷◌, ◌++◌, length, map, slice_index, slice_set, None, IfSome, All, Contains, cond, ◌==◌}
 use mathlib.Core.Option.{some}
 use lib.ListN.{get_elem?}
 use Rattle.pd_types.specs.declared.oracle.Seen.{Seen}
+use Rattle.pd_types.specs.declared.stamp.TheConstants.{LOGICAL}
+use Rattle.pd_types.specs.declared.oracle.TheConstants.{CLOCK_END}
 use Rattle.tso_model.specs.declared.entries.Claim.{Claim}
 use Rattle.tso_model.specs.declared.entries.Published.{Published}
 use Rattle.tso_model.specs.declared.entries.Found.{Found}
@@ -53,7 +55,7 @@ pub record FitsA (k : Setup) (h : History) (v : View) : Type 0 where
   pub own_sum : 0 < v.client → (d : ℕ) → added_by v.client d v.added ≡ added_by v.client d h.added
   -- a held term is that of the latest claim, and a mark says that the cursor was raised to its start
   pub holds : v.holds ≡ true → HasClaim v
-  pub marked : v.marked ≡ true → (v.holds ≡ true) × IsOpen (held v) × ((held v).lo * 262144 ≤ greatest v.driver h.starts)
+  pub marked : v.marked ≡ true → (v.holds ≡ true) × IsOpen (held v) × ((held v).lo * LOGICAL ≤ greatest v.driver h.starts)
   -- a limit in hand is of one of the drivers
   pub aims : IfSome v.hand (λ l. (0 < l.driver) × (l.driver ≤ k.drivers))
   -- entries carry the view's own number or one that it took in
@@ -70,7 +72,7 @@ pub record FitsA (k : Setup) (h : History) (v : View) : Type 0 where
 pub record IsSetup (k : Setup) : Type 0 where
   pub drivers : (0 < k.drivers) × (k.drivers ≤ 7)
   pub clients : (0 < k.clients) × (k.clients ≤ 64)
-  pub cell : (k.cell.saved < 2 ^ 45) × (k.cell.term < 262144)
+  pub cell : (k.cell.saved < CLOCK_END) × (k.cell.term < LOGICAL)
 
 -- Part A. The windows of all views and the opening window are one window list, whose last window the cell names; each number stands in one view; what a view knows of the cell is at most the cell; each published limit names an open window of its driver, whose start the cursor was raised to; a limit in hand is of one of the drivers
 pub record PartA (k : Setup) (words : List ℕ) (views : List View) (h : History) : Type 0 where
@@ -82,8 +84,8 @@ pub record PartA (k : Setup) (words : List ℕ) (views : List View) (h : History
   pub chain : AreClaims (opening_claim k.cell) h.newest h.past
   -- the cell names the newest window, and is in range
   pub cell : slice_index words 0 ≡ packed h.newest.window.hi h.newest.window.term
-  pub in_time : h.newest.window.hi < 2 ^ 45
-  pub in_terms : h.newest.window.term < 262144
+  pub in_time : h.newest.window.hi < CLOCK_END
+  pub in_terms : h.newest.window.term < LOGICAL
   -- each window but the opening one is a driver's
   pub makers : (c : Claim) → Stands h c → 0 < c.window.driver → c.window.driver ≤ k.drivers
   -- each driver's and each client's number stands in one view
@@ -93,9 +95,9 @@ pub record PartA (k : Setup) (words : List ℕ) (views : List View) (h : History
   pub each : (id : ℕ) (v : View) → get_elem? views id ≡ some v → v.spent ≡ false → FitsA k h v
   pub gone : (id : ℕ) (v : View) → get_elem? views id ≡ some v → v.spent ≡ true → v ≡ spent_view
   -- each published limit, and each limit word that isn't 0, names an open window that the cursor was raised to
-  pub published : All (λ (p : Published). p.word ≢ 0 → Names h p.driver (p.word % 262144) (p.word / 262144)) h.published
+  pub published : All (λ (p : Published). p.word ≢ 0 → Names h p.driver (p.word % LOGICAL) (p.word / LOGICAL)) h.published
   pub limits : (d : ℕ) → 0 < d → d ≤ k.drivers → slice_index words (limit_at d) ≢ 0
-      → Contains h.published (record { driver = d; word = slice_index words (limit_at d) }) × Names h d (slice_index words (limit_at d) % 262144) (slice_index words (limit_at d) / 262144)
+      → Contains h.published (record { driver = d; word = slice_index words (limit_at d) }) × Names h d (slice_index words (limit_at d) % LOGICAL) (slice_index words (limit_at d) / LOGICAL)
 
 -- what a view has armed at the driver d
 abbrev pub armed_at : ℕ → View → ℕ
@@ -106,8 +108,8 @@ pub record IsSeen (words : List ℕ) (h : History) (seen : Seen) : Type 0 where
   pub claim : Claim
   pub stands : Stands h claim
   pub term_is : claim.window.term ≡ seen.term
-  pub above : claim.window.lo * 262144 < seen.last
-  pub below : seen.last < claim.window.hi * 262144
+  pub above : claim.window.lo * LOGICAL < seen.last
+  pub below : seen.last < claim.window.hi * LOGICAL
   pub drawn : seen.last ≤ slice_index words (cursor_at claim.window.driver)
   pub word : ℕ
   pub is_limit : word ≢ 0
@@ -129,9 +131,9 @@ pub record PartB (k : Setup) (words : List ℕ) (views : List View) (h : History
   pub falls : (c : Claim) → Stands h c → Falls (slice_index words (cursor_at c.window.driver)) (map (λ (g : Grant). g.batch) (h.drawn c.window.term))
   pub none_else : (t : ℕ) → ((c : Claim) → Stands h c → c.window.term ≢ t) → h.drawn t ≡ []
   -- the quotas add up to 262144 for each client
-  pub quotas : total (λ v. v.quota) views ≡ k.clients * 262144
+  pub quotas : total (λ v. v.quota) views ≡ k.clients * LOGICAL
   -- a cursor, with all that is armed at it, stands at most 64 ms past the saved end
-  pub cursors : (d : ℕ) → 0 < d → d ≤ k.drivers → slice_index words (cursor_at d) + total (armed_at d) views ≤ (h.newest.window.hi + 64) * 262144
+  pub cursors : (d : ℕ) → 0 < d → d ≤ k.drivers → slice_index words (cursor_at d) + total (armed_at d) views ≤ (h.newest.window.hi + 64) * LOGICAL
   -- no cursor is below its driver's greatest start
   pub raised : (d : ℕ) → 0 < d → d ≤ k.drivers → greatest d h.starts ≤ slice_index words (cursor_at d)
   -- each view fits
@@ -145,7 +147,7 @@ pub record Bounded (h : History) (r : Refusal) : Type 0 where
   pub open_is : IsOpen claim.window
   pub told : Contains h.published (record { driver = r.driver; word = packed r.hi claim.window.term })
   pub start : ℕ
-  pub begins : claim.window.lo * 262144 ≤ start
+  pub begins : claim.window.lo * LOGICAL ≤ start
   pub made : (start ≡ 0) ⊎ Contains h.starts (record { driver = r.driver; at = start })
   pub low : start ≤ r.at
   pub high : r.at ≤ start + (r.sum + added_else r.client r.driver h.added)

@@ -3,6 +3,8 @@ use Rattle.std.specs.Prelude.{◌≡◌, ◌≢◌, ℕ, ◌+◌, ◌-◌, ◌*�
 use Rattle.pd_types.specs.declared.oracle.CellWord.{CellWord}
 use Rattle.pd_types.specs.declared.oracle.Window.{Window}
 use Rattle.pd_types.specs.declared.oracle.Batch.{Batch}
+use Rattle.pd_types.specs.declared.stamp.TheConstants.{LOGICAL}
+use Rattle.pd_types.specs.declared.oracle.TheConstants.{CLOCK_END, LAST_TERM}
 use Rattle.tso_model.specs.declared.entries.Claim.{Claim}
 use Rattle.tso_model.specs.declared.entries.Limit.{Limit}
 use Rattle.tso_model.specs.declared.plan.TheConstants.{AHEAD_MS}
@@ -46,13 +48,13 @@ AtRest v = (v.hand ≡ None) × (v.armed ≡ 0)
 -- what a step asks of the view that makes it
 abbrev pub May : Setup → WordStep → View → Type 0
 May k LoadCell v = 0 < v.driver
-May k ClaimTerm v = (0 < v.driver) × (v.cell.term < 262143)
-May k (SaveEnd hi) v = (0 < v.driver) × (v.holds ≡ true) × HasClaim v × ((held v).hi < hi) × (hi < 2 ^ 45)
-May k (RaiseCursor at) v = (0 < v.driver) × ((at ≡ 0) ⊎ ((v.holds ≡ true) × HasClaim v × (at ≤ (held v).hi * 262144)))
+May k ClaimTerm v = (0 < v.driver) × (v.cell.term < LAST_TERM)
+May k (SaveEnd hi) v = (0 < v.driver) × (v.holds ≡ true) × HasClaim v × ((held v).hi < hi) × (hi < CLOCK_END)
+May k (RaiseCursor at) v = (0 < v.driver) × ((at ≡ 0) ⊎ ((v.holds ≡ true) × HasClaim v × (at ≤ (held v).hi * LOGICAL)))
 May k StoreLimit v = (0 < v.driver) × (v.holds ≡ true) × (v.marked ≡ true) × HasClaim v × IsOpen (held v)
 May k ClearLimit v = 0 < v.driver
 May k (LoadLimit d) v = (0 < v.client) × AtRest v × (0 < d) × (d ≤ k.drivers)
-May k (ArmCount n) v = (0 < v.client) × HasHand v × (v.armed ≡ 0) × (0 < n) × (n < 262144) × (n ≤ v.quota)
+May k (ArmCount n) v = (0 < v.client) × HasHand v × (v.armed ≡ 0) × (0 < n) × (n < LOGICAL) × (n ≤ v.quota)
 May k AddArmed v = (0 < v.client) × HasHand v × (0 < v.armed)
 
 -- the word that the step touches
@@ -108,7 +110,7 @@ saves hi v (Some c) = record v { cell = record { saved = hi; term = c.window.ter
 
 -- the held window is open, and `at` is its start or more
 abbrev pub marks : ℕ → View → Bool
-marks at v = cond v.holds (cond (nat_lt (held v).lo (held v).hi) (cond (nat_lt at ((held v).lo * 262144)) v.marked true) v.marked) v.marked
+marks at v = cond v.holds (cond (nat_lt (held v).lo (held v).hi) (cond (nat_lt at ((held v).lo * LOGICAL)) v.marked true) v.marked) v.marked
 
 -- the view that raised its cursor to `at` and found it at `found`
 abbrev pub raised : ℕ → ℕ → View → View
@@ -130,12 +132,12 @@ resting v = record v { hand = None; armed = 0 }
 
 -- a limit word that is in hand afterwards: it is not 0, and not of a term below the seen one
 abbrev pub fresh : ℕ → View → Bool
-fresh word v = cond (word == 0) false (cond (nat_lt (word % 262144) v.seen.term) false true)
+fresh word v = cond (word == 0) false (cond (nat_lt (word % LOGICAL) v.seen.term) false true)
 
 -- the view that loaded the limit word of the driver d
 abbrev pub looked : ℕ → ℕ → View → View
 looked d word v = record v {
-  hand = cond (fresh word v) (Some (record { driver = d; term = word % 262144; hi = word / 262144 })) None;
+  hand = cond (fresh word v) (Some (record { driver = d; term = word % LOGICAL; hi = word / LOGICAL })) None;
   looks = v.looks ++ record { client = v.client; driver = d; word = word; seen = v.seen } ∷ [];
 }
 

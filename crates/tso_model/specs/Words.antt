@@ -4,19 +4,26 @@ use Rattle.pd_types.specs.declared.oracle.CellWord.{CellWord}
 use Rattle.pd_types.specs.declared.oracle.Window.{Window}
 use Rattle.pd_types.specs.declared.oracle.Batch.{Batch}
 use Rattle.pd_types.specs.Timestamp.{logical}
+use Rattle.pd_types.specs.declared.stamp.TheConstants.{LOGICAL}
+use Rattle.pd_types.specs.declared.oracle.TheConstants.{CLOCK_END}
 use Rattle.tso_model.specs.declared.entries.Claim.{Claim}
 
 -- a time and a term in one word
 abbrev pub packed : ℕ → ℕ → ℕ
-packed time term = time * 262144 + term
+packed time term = time * LOGICAL + term
 
 -- the cell that a word holds
 abbrev pub cell_of : ℕ → CellWord
-cell_of n = record { saved = n / 262144; term = n % 262144 }
+cell_of n = record { saved = n / LOGICAL; term = n % LOGICAL }
 
 -- the word that holds a cell
 abbrev pub cell_word : CellWord → ℕ
 cell_word c = packed c.saved c.term
+
+-- a cell in range: a saved time below 2^45 milliseconds, a term up to 262143
+pub record IsCell (c : CellWord) : Type 0 where
+  pub saved : c.saved < CLOCK_END
+  pub term : c.term < LOGICAL
 
 -- the words of the driver d, from 1 on; the word 0 is the cell
 abbrev pub limit_at : ℕ → ℕ
@@ -44,7 +51,13 @@ IsOpen w = w.lo < w.hi
 
 -- n more than `at` is at the end or past it, or past the logical part
 abbrev pub passes : ℕ → ℕ → ℕ → Bool
-passes at hi n = cond (nat_lt (at + n) (hi * 262144)) (cond (nat_lt (logical at + n) 262144) false true) true
+passes at hi n = cond (nat_lt (at + n) (hi * LOGICAL)) (cond (nat_lt (logical at + n) LOGICAL) false true) true
+
+-- the end of the last window, or 0
+abbrev pub last_end : List Window → ℕ
+last_end [] = 0
+last_end (w ∷ []) = w.hi
+last_end (w ∷ x ∷ ws) = last_end (x ∷ ws)
 
 -- c stands behind x in a window list: its term is the next, it was claimed at x's end and begins there or later, and before its first save it has no length and stands where it was claimed
 pub record Follows (x c : Claim) : Type 0 where
@@ -62,7 +75,7 @@ AreClaims first c (x ∷ xs) = Follows x c × AreClaims first x xs
 
 -- a batch is in one millisecond, and inside the window
 abbrev pub Inside : Window → Batch → Type 0
-Inside w b = (b.term ≡ w.term) × (b.driver ≡ w.driver) × (w.lo < w.hi) × (0 < b.count) × (w.lo * 262144 + b.count ≤ b.last) × (b.last < w.hi * 262144) × (logical (b.last - b.count) + b.count < 262144)
+Inside w b = (b.term ≡ w.term) × (b.driver ≡ w.driver) × (w.lo < w.hi) × (0 < b.count) × (w.lo * LOGICAL + b.count ≤ b.last) × (b.last < w.hi * LOGICAL) × (logical (b.last - b.count) + b.count < LOGICAL)
 
 -- batches, the newest first: each is above those before it, and none is above c
 abbrev pub Falls : ℕ → List Batch → Type 0

@@ -13,7 +13,7 @@ use Rattle.tso_model.specs.declared.entries.Grant.{Grant}
 use Rattle.tso_model.specs.declared.view.View.{View}
 use Rattle.tso_model.specs.Lists.{total}
 use Rattle.tso_model.specs.Words.{Inside, opening_claim}
-use Rattle.tso_model.specs.Moves.{nothing_seen}
+use Rattle.tso_model.specs.Moves.{nothing_seen, client_view}
 use Rattle.tso_model.specs.Ledger.{IsDrawList, IsWindowList, Climb, IsRisingBy}
 use Rattle.tso_model.proofs.Basics.{in_head, in_tail, in_cons, in_nil, weight_le}
 use Rattle.tso_model.proofs.Sums.{total-append}
@@ -28,7 +28,6 @@ use Rattle.tso_model.specs.OneHistory.{IsBelow, AreApart}
 use Rattle.tso_outcome.specs.Batches.{AreBatches, KeepsAbove, KeepBatches}
 use Rattle.tso_outcome.proofs.Ended.{CameBack}
 use Rattle.tso_outcome.specs.Ends.{ClientEnd}
-use Rattle.tso_board.specs.Actors.{client_view}
 use Rattle.tso_outcome.proofs.Codes.{hit, hit-same, hit-is, stands, weighs, batch_code, batch_one}
 use Rattle.tso_outcome.proofs.Chains.{ClientSplit, drew_split, drew_client, drew_seen, drew_grants}
 

@@ -31,7 +31,7 @@ use Rattle.tso_outcome.specs.Runs.{Run, DriverPart, ClientPart, Place, asked_of_
 use Rattle.tso_outcome.specs.Refusals.{GaveEnd, IsAgain, KeepsAgain, KeepRefusals}
 use Rattle.tso_outcome.proofs.Ended.{CameBack}
 use Rattle.tso_outcome.specs.Ends.{DriverEnd, ClientEnd}
-use Rattle.tso_board.specs.Actors.{driver_view, client_view}
+use Rattle.tso_model.specs.Moves.{driver_view, client_view}
 use Rattle.tso_outcome.proofs.Chains.{ClientSplit, drew_client, drew_asked, drew_refusals}
 use Rattle.tso_outcome.proofs.Drives.{DriverSplit, drove_split, drove_kept, drove_claimed, IsClaimed, WasPublished}
 use Rattle.tso_outcome.proofs.Above.{client_end, client_at, to_map}

@@ -16,7 +16,8 @@ use Rattle.tso_outcome.specs.declared.said.DriverAnswer.{DriverAnswer}
 use Rattle.tso_driver.specs.declared.said.DriverSaid.TheVariants.{Led, Ticked, Resigned}
 use Rattle.tso_driver.specs.declared.reply.LeadReply.TheVariants.{Won, Beaten, Lost as LeadLost, TermsSpent, ClockRange as LeadPast}
 use Rattle.tso_driver.specs.declared.reply.TickReply.TheVariants.{Moved, Idle, Lost as TickLost, ClockRange as TickPast, NotLeading}
-use Rattle.tso_outcome.specs.Drives.{Drove, held_by, raised, greatest_of}
+use Rattle.tso_outcome.specs.Drives.{Drove, held_by, raised}
+use Rattle.pd_types.specs.Numbers.{greatest_of}
 use Rattle.tso_driver.specs.Driving.{DriverDid, DriverTold, ClaimsGrow, Keeps, held_after, moved_to, raises, start_at, Publishes}
 use Rattle.tso_board.specs.Told.{holding}
 use Rattle.tso_outcome.proofs.Chains.{map-append}

@@ -9,7 +9,7 @@ use Rattle.tso_model.specs.Words.{opening_claim}
 use Rattle.tso_model.specs.History.{claims as of_view}
 use Rattle.tso_model.specs.Ledger.{Gathered, IsDrawList, IsRisingBy, IsWindowList}
 use Rattle.tso_model.specs.Sound.{IsSetup}
-use Rattle.tso_board.specs.Actors.{driver_view, client_view}
+use Rattle.tso_model.specs.Moves.{driver_view, client_view}
 use Rattle.tso_board.specs.Ledger.{Unites}
 use Rattle.tso_client.specs.Posts.{IsPost, entries_of}
 use Rattle.tso_outcome.specs.Drives.{Drove}

@@ -15,7 +15,7 @@ use Rattle.tso_model.specs.declared.entries.Added.{Added}
 use Rattle.tso_model.specs.declared.view.View.{View}
 use Rattle.tso_model.specs.declared.view.Setup.{Setup}
 use Rattle.tso_model.specs.Lists.{total}
-use Rattle.tso_model.specs.Words.{IsOpen, opening_claim, Follows}
+use Rattle.tso_model.specs.Words.{IsOpen, opening_claim, Follows, last_end}
 use Rattle.tso_model.specs.History.{History, Stands, claims, added_at, added_by, added_else}
 use Rattle.tso_model.specs.Ledger.{IsRisingBy, back, Rise, IsWindowList}
 use Rattle.tso_model.proofs.Basics.{by_bool, by_eq, in_head, in_tail, in_cons, in_nil, weight_le, added_parts}
@@ -27,10 +27,9 @@ use Rattle.tso_outcome.specs.Drives.{Drove, raised}
 use Rattle.tso_driver.specs.Driving.{DriverDid, start_at}
 use Rattle.tso_outcome.specs.Clients.{Client, Drew, asked_by}
 use Rattle.tso_outcome.specs.Runs.{Run, DriverPart, ClientPart, asked_of_all, asked_of_others}
-use Rattle.tso_outcome.specs.Windows.{last_hi}
 use Rattle.tso_outcome.proofs.Ended.{CameBack, AreDistinctBy}
 use Rattle.tso_outcome.specs.Ends.{DriverEnd, ClientEnd}
-use Rattle.tso_board.specs.Actors.{driver_view, client_view}
+use Rattle.tso_model.specs.Moves.{driver_view, client_view}
 use Rattle.tso_outcome.proofs.Codes.{hit, hit-same, hit-is, stands, weighs, located, brought, moved, start_code, start_one, found_code, found_one, published_code, published_one, look_code, look_one, refusal_code, refusal_one, claim_code, claim_one}
 use Rattle.tso_outcome.proofs.Chains.{drew_client, drew_asked, drew_own}
 use Rattle.tso_outcome.proofs.Drives.{DriverSplit, drove_split, drove_starts, drove_back, drove_own, WasPublished, drove_published}
@@ -80,7 +79,7 @@ rise_has x (y ∷ ys) r e h t low high = dite (dec_le t x.window.term)
     (in_cons x (y ∷ ys) e h))
 
 -- no window ends behind the last
-pub rise_last : (x : Claim) (rest : List Claim) → Rise x rest → (e : Claim) → Contains (x ∷ rest) e → e.window.hi ≤ last_hi (map (λ (c : Claim). c.window) (x ∷ rest))
+pub rise_last : (x : Claim) (rest : List Claim) → Rise x rest → (e : Claim) → Contains (x ∷ rest) e → e.window.hi ≤ last_end (map (λ (c : Claim). c.window) (x ∷ rest))
 rise_last x [] r e h = ⊎_elim (λ (s : x ≡ e). omega (arith, ap (λ (z : Claim). z.window.hi) s)) (λ (z : Contains [] e). in_nil e z) (in_cons x [] e h)
 rise_last x (y ∷ ys) r e h = ⊎_elim
     (λ (s : x ≡ e). omega (arith, rise_last y ys r.1 y (in_head y ys), ap (λ (z : Claim). z.window.hi) s, r.0.begins, r.0.ends))
@@ -115,8 +114,8 @@ module _ (run : Run) (b : CameBack run) where
   has_term t low high = let c = rise_has (opening_claim run.setup.cell) window_list.rest window_list.rises b.gathered.history.newest
       (in_all b.gathered.history.newest (moved claim_code claim_one (b.gathered.history.newest ∷ b.gathered.history.past) b.claims (λ f. omega (arith, b.claims_weigh f, b.gathered.a.claims f, back_total f (b.gathered.history.newest ∷ b.gathered.history.past))) b.gathered.history.newest (in_head b.gathered.history.newest b.gathered.history.past))) t low high in (c.0, from_all c.0 c.1, c.2)
 
-  pub newest_ends : b.gathered.history.newest.window.hi ≤ last_hi run.windows
-  newest_ends = subst (λ l. b.gathered.history.newest.window.hi ≤ last_hi l) (ap (map (λ (c : Claim). c.window)) (sym window_list.all) ∙ sym b.windows_are) (rise_last (opening_claim run.setup.cell) window_list.rest window_list.rises b.gathered.history.newest
+  pub newest_ends : b.gathered.history.newest.window.hi ≤ last_end run.windows
+  newest_ends = subst (λ l. b.gathered.history.newest.window.hi ≤ last_end l) (ap (map (λ (c : Claim). c.window)) (sym window_list.all) ∙ sym b.windows_are) (rise_last (opening_claim run.setup.cell) window_list.rest window_list.rises b.gathered.history.newest
       (in_all b.gathered.history.newest (moved claim_code claim_one (b.gathered.history.newest ∷ b.gathered.history.past) b.claims (λ f. omega (arith, b.claims_weigh f, b.gathered.a.claims f, back_total f (b.gathered.history.newest ∷ b.gathered.history.past))) b.gathered.history.newest (in_head b.gathered.history.newest b.gathered.history.past))))
 
 module _ (run : Run) (b : CameBack run) where

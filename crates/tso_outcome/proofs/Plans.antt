@@ -20,14 +20,15 @@ use Rattle.tso_driver.specs.declared.said.DriverSaid.TheVariants.{Led, Ticked, R
 use Rattle.tso_driver.specs.declared.reply.LeadReply.TheVariants.{Won, Beaten, Lost as LeadLost, TermsSpent, ClockRange as LeadPast}
 use Rattle.tso_driver.specs.declared.reply.TickReply.{TickReply}
 use Rattle.tso_driver.specs.declared.reply.TickReply.TheVariants.{Moved, Idle, Lost as TickLost, ClockRange as TickPast, NotLeading}
-use Rattle.tso_outcome.specs.Drives.{Drove, held_by, raised, greatest_of}
+use Rattle.tso_outcome.specs.Drives.{Drove, held_by, raised}
+use Rattle.pd_types.specs.Numbers.{greatest_of}
 use Rattle.tso_driver.specs.Driving.{DriverDid, DriverTold, HasTicked, start_at}
 use Rattle.tso_board.specs.Told.{holding}
 use Rattle.tso_outcome.specs.Runs.{Run, DriverPart}
-use Rattle.tso_outcome.specs.Windows.{IsWon, IsPlanned, KeepsPlan, KeepWindows, last_hi}
+use Rattle.tso_outcome.specs.Windows.{IsWon, IsPlanned, KeepsPlan, KeepWindows}
 use Rattle.tso_outcome.proofs.Ended.{CameBack}
 use Rattle.tso_outcome.specs.Ends.{DriverEnd}
-use Rattle.tso_board.specs.Actors.{driver_view}
+use Rattle.tso_model.specs.Moves.{driver_view}
 use Rattle.tso_outcome.proofs.Drives.{DriverSplit, drove_driver, drove_cells, drove_kept, drove_starts, drove_founds, drove_holding, greatest_starts}
 use Rattle.tso_outcome.proofs.Above.{to_map, lists_of}
 use Rattle.tso_outcome.proofs.Known.{the_history, claim_in, claim_is, window_in, before_it, has_term, newest_ends, found_in, all_added}

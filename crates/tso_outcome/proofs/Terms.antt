@@ -12,7 +12,7 @@ use Rattle.tso_model.specs.declared.view.View.{View}
 use Rattle.tso_model.specs.declared.view.Setup.{Setup}
 use Rattle.tso_model.specs.Words.{IsOpen, packed, window, claim, opening_claim}
 use Rattle.tso_model.specs.History.{History, Names, claims, Extends}
-use Rattle.tso_model.specs.Moves.{nothing_seen}
+use Rattle.tso_model.specs.Moves.{nothing_seen, driver_view, client_view}
 use Rattle.tso_model.specs.Sound.{Looked}
 use Rattle.tso_model.proofs.Basics.{in_head, in_tail, in_cons, in_nil}
 use Rattle.tso_driver.specs.declared.said.DriverSaid.{DriverSaid}
@@ -34,7 +34,6 @@ use Rattle.tso_outcome.specs.Terms.{GivesUp, IsByAnother, KeepsFound, IsStale, I
 use Rattle.tso_client.specs.Posts.{entries_of}
 use Rattle.tso_outcome.proofs.Ended.{CameBack}
 use Rattle.tso_outcome.specs.Ends.{DriverEnd, ClientEnd}
-use Rattle.tso_board.specs.Actors.{driver_view, client_view}
 use Rattle.tso_outcome.proofs.Chains.{ClientSplit, drew_client, drew_seen, drew_looks, drew_slip}
 use Rattle.tso_outcome.proofs.Drives.{DriverSplit, drove_split, drove_opening, drove_driver, drove_cells, drove_kept, drove_back, drove_own, drove_claimed, IsClaimed, WasPublished}
 use Rattle.tso_outcome.proofs.Above.{client_end, client_at, in_map, to_map}

@@ -1,5 +1,5 @@
 -- What a driver's answers say together, and its calls in a row.
-use Rattle.std.specs.Prelude.{◌≡◌, ℕ, List, [], ◌∷◌, ◌++◌, max, Option}
+use Rattle.std.specs.Prelude.{◌≡◌, ℕ, List, [], ◌∷◌, ◌++◌, Option}
 use Rattle.pd_types.specs.declared.oracle.Window.{Window}
 use Rattle.tso_model.specs.declared.view.View.{View}
 use Rattle.tso_driver.specs.Driving.{DriverDid, held_after, raises}
@@ -14,11 +14,6 @@ held_by d holds (a ∷ rest) = held_by d (held_after d a.said holds) rest
 abbrev pub raised : List DriverAnswer → List ℕ
 raised [] = []
 raised (a ∷ rest) = raises a.said ++ raised rest
-
--- the greatest of these numbers, or 0
-abbrev pub greatest_of : List ℕ → ℕ
-greatest_of [] = 0
-greatest_of (x ∷ xs) = max x (greatest_of xs)
 
 -- the calls of a driver's lines, one after the other, from what it knew to what it knows
 abbrev pub Drove : View → List DriverAnswer → View → Type 0

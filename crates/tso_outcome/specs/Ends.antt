@@ -1,9 +1,8 @@
 -- What a runner knows when its workers are joined, the post is closed and the ledger is gathered.
 use Rattle.std.specs.Prelude.{◌≡◌, ℕ, List, [], map, Contains}
 use Rattle.tso_model.specs.declared.view.View.{View}
-use Rattle.tso_model.specs.Moves.{numbers_from}
+use Rattle.tso_model.specs.Moves.{numbers_from, driver_view, client_view}
 use Rattle.tso_model.specs.Sound.{IsSetup}
-use Rattle.tso_board.specs.Actors.{driver_view, client_view}
 use Rattle.tso_board.specs.Ledger.{GatheredFrom}
 use Rattle.tso_client.specs.Posts.{IsPost, entries_of}
 use Rattle.tso_outcome.specs.Drives.{Drove}

@@ -1,6 +1,7 @@
 -- The refusals of a lawful run: each `again` has its cause (own choice: a draw whose count passes the end of the window, or the logical part, grants nothing).
 use Rattle.std.specs.Prelude.{◌≡◌, ℕ, ◌+◌, ◌*◌, ◌≤◌, true, List, Some, None, Ok, Err, Contains}
 use Rattle.pd_types.specs.declared.oracle.Window.{Window}
+use Rattle.pd_types.specs.declared.stamp.TheConstants.{LOGICAL}
 use Rattle.tso_model.specs.Words.{passes}
 use Rattle.tso_driver.specs.declared.said.DriverSaid.{DriverSaid}
 use Rattle.tso_driver.specs.declared.said.DriverSaid.TheVariants.{Led, Ticked, Resigned}
@@ -41,7 +42,7 @@ pub record IsAgain (run : Run) (c : ℕ) (before : List ClientAnswer) (d n at hi
   pub gave : GaveEnd d place.before place.one.said hi lo
   pub start : ℕ
   pub raised_to : Contains (raised driver.answers) start
-  pub begins : lo * 262144 ≤ start
+  pub begins : lo * LOGICAL ≤ start
   pub low : start ≤ at
   pub high : at ≤ start + (asked_by d before + asked_of_others c d run.clients)
 

@@ -1,11 +1,12 @@
 -- The windows of a lawful run: those of all terms, one behind the other; and leads and ticks went by the plan of their moment (PD documentation, "Timestamp Oracle"; the exact plan is own choice, that of tso_model).
-use Rattle.std.specs.Prelude.{◌≡◌, ℕ, ◌+◌, ◌^◌, ◌≤◌, ◌⊎◌, true, false, List, [], ◌∷◌, map, Some, None, Contains}
+use Rattle.std.specs.Prelude.{◌≡◌, ℕ, ◌+◌, ◌≤◌, ◌⊎◌, true, false, List, ◌∷◌, map, Some, None, Contains}
 use Rattle.pd_types.specs.declared.oracle.CellWord.{CellWord}
 use Rattle.pd_types.specs.declared.oracle.Window.{Window}
 use Rattle.tso_model.specs.declared.entries.Claim.{Claim}
-use Rattle.tso_model.specs.Words.{opening_claim}
+use Rattle.tso_model.specs.Words.{opening_claim, last_end}
 use Rattle.tso_model.specs.Ledger.{IsWindowList}
 use Rattle.tso_model.specs.Plan.{end_of, lead_next}
+use Rattle.tso_model.specs.declared.plan.TheConstants.{AHEAD_MS}
 use Rattle.tso_driver.specs.declared.said.DriverSaid.{DriverSaid}
 use Rattle.tso_driver.specs.declared.said.DriverSaid.TheVariants.{Led, Ticked, Resigned}
 use Rattle.tso_driver.specs.declared.reply.LeadReply.TheVariants.{Won, Beaten, Lost as LeadLost, TermsSpent, ClockRange as LeadPast}
@@ -13,14 +14,10 @@ use Rattle.tso_driver.specs.declared.reply.TickReply.{TickReply}
 use Rattle.tso_driver.specs.declared.reply.TickReply.TheVariants.{Moved, Idle, Lost as TickLost, ClockRange as TickPast, NotLeading}
 use Rattle.tso_driver.specs.Driving.{IsTick}
 use Rattle.tso_outcome.specs.declared.said.DriverAnswer.{DriverAnswer}
-use Rattle.tso_outcome.specs.Drives.{held_by, raised, greatest_of}
+use Rattle.tso_outcome.specs.Drives.{held_by, raised}
+use Rattle.pd_types.specs.Numbers.{greatest_of}
+use Rattle.pd_types.specs.declared.oracle.TheConstants.{CLOCK_END, LAST_TERM}
 use Rattle.tso_outcome.specs.Runs.{Run, DriverPart, EachAnswer, asked_of_all}
-
--- the end of the last window, or 0
-abbrev pub last_hi : List Window → ℕ
-last_hi [] = 0
-last_hi (w ∷ []) = w.hi
-last_hi (w ∷ x ∷ xs) = last_hi (x ∷ xs)
 
 -- the windows of all terms from this opening cell's on, each at or behind the end of the one before
 pub record AreWindowsFrom (cell : CellWord) (windows : List Window) : Type 0 where
@@ -52,8 +49,8 @@ abbrev pub KeepsPlan : Run → ℕ → List DriverAnswer → DriverSaid → Type
 KeepsPlan run d before (Led now (Won term lo hi)) = IsWon run d now term lo hi
 KeepsPlan run d before (Led now (Beaten found)) = Unit {0}
 KeepsPlan run d before (Led now (LeadLost found)) = Unit {0}
-KeepsPlan run d before (Led now TermsSpent) = (w : Window) × Contains run.windows w × (w.term ≡ 262143)
-KeepsPlan run d before (Led now LeadPast) = (2 ^ 45 ≤ now + 3000) ⊎ (2 ^ 45 ≤ last_hi run.windows + 3001)
+KeepsPlan run d before (Led now TermsSpent) = (w : Window) × Contains run.windows w × (w.term ≡ LAST_TERM)
+KeepsPlan run d before (Led now LeadPast) = (CLOCK_END ≤ now + AHEAD_MS) ⊎ (CLOCK_END ≤ last_end run.windows + (AHEAD_MS + 1))
 KeepsPlan run d before (Ticked now (Moved next hi)) = IsPlanned run d now before (Moved next hi)
 KeepsPlan run d before (Ticked now Idle) = IsPlanned run d now before Idle
 KeepsPlan run d before (Ticked now (TickLost found)) = IsPlanned run d now before (TickLost found)

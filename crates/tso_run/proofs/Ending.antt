@@ -8,11 +8,10 @@ use mathlib.Core.Logic.{dite}
 use Rattle.atomic_table.specs.Seated.{TableId}
 use Rattle.pd_turn.specs.Turns.{TurnValue}
 use Rattle.tso_model.specs.declared.view.View.{View}
-use Rattle.tso_model.specs.Moves.{numbers_from}
+use Rattle.tso_model.specs.Moves.{numbers_from, client_view}
 use Rattle.tso_model.specs.Steps.{AtRest}
 use Rattle.tso_model.proofs.Basics.{in_head, in_tail}
 use Rattle.tso_board.specs.declared.board.Board.{Board}
-use Rattle.tso_board.specs.Actors.{client_view}
 use Rattle.tso_board.specs.Boards.{setup_of}
 use Rattle.tso_board.specs.Ledger.{HasEach}
 use Rattle.tso_board.specs.Passes.{IsPassOf, pass_view}

@@ -5,10 +5,9 @@ use Rattle.std.proofs.lemmas.List.Elements.{All-push, All-head, All-tail, All-ni
 use Rattle.atomic_table.specs.Seated.{TableId}
 use Rattle.pd_turn.specs.Turns.{TurnValue}
 use Rattle.tso_model.specs.declared.view.Setup.{Setup}
-use Rattle.tso_model.specs.Moves.{numbers_from}
+use Rattle.tso_model.specs.Moves.{numbers_from, client_view}
 use Rattle.tso_board.specs.declared.board.Board.{Board}
 use Rattle.tso_board.specs.declared.pass.Pass.{Pass}
-use Rattle.tso_board.specs.Actors.{client_view}
 use Rattle.tso_board.specs.Boards.{board_id, setup_of}
 use Rattle.tso_board.specs.Passes.{IsPassOf, pass_view}
 use Rattle.tso_client.specs.Slips.{SlipValue, clients_of, new_slip}

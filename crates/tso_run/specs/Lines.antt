@@ -1,5 +1,6 @@
 -- What a driver and a client are asked on a line, and which lines a client answers.
 use Rattle.std.specs.Prelude.{ℕ, ◌<◌, ◌≤◌, ◌==◌, List, filter}
+use Rattle.pd_types.specs.declared.stamp.TheConstants.{LOGICAL}
 use Rattle.tso_model.specs.declared.view.Setup.{Setup}
 use Rattle.tso_driver.specs.declared.said.DriverSaid.{DriverSaid}
 use Rattle.tso_driver.specs.declared.said.DriverSaid.TheVariants.{Led, Ticked, Resigned}
@@ -34,6 +35,6 @@ lines_of_client c lines = filter (λ (l : ClientLine). l.client == c) lines
 
 -- a draw is of 1 to 262,143 timestamps, at one of the drivers; a note is for one of the clients
 abbrev pub IsCall : Setup → ClientAsk → Type 0
-IsCall k (Take d n) = (0 < d) × (d ≤ k.drivers) × (0 < n) × (n < 262144)
+IsCall k (Take d n) = (0 < d) × (d ≤ k.drivers) × (0 < n) × (n < LOGICAL)
 IsCall k (Tell to) = (0 < to) × (to ≤ k.clients)
 IsCall k Hear = Unit {0}

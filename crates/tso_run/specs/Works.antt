@@ -5,7 +5,7 @@ use Rattle.pd_turn.specs.Turns.{TurnValue}
 use Rattle.tso_model.specs.Steps.{AtRest}
 use Rattle.tso_board.specs.declared.board.Board.{Board}
 use Rattle.tso_board.specs.declared.pass.Pass.{Pass}
-use Rattle.tso_board.specs.Actors.{client_view}
+use Rattle.tso_model.specs.Moves.{client_view}
 use Rattle.tso_board.specs.Boards.{board_id, setup_of}
 use Rattle.tso_board.specs.Passes.{IsPassOf, pass_view}
 use Rattle.tso_client.specs.Slips.{SlipValue, clients_of, new_slip}

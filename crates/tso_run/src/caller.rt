@@ -1,5 +1,6 @@
 // A client's worker: it answers its lines, one after the other.
 ghost use Rattle.std.specs.Prelude.{◌≡◌, ◌<◌, ◌≤◌, All, IfOk, OnOk};
+ghost use Rattle.pd_types.specs.declared.stamp.TheConstants.{LOGICAL};
 ghost use Rattle.tso_model.specs.Steps.{AtRest};
 ghost use Rattle.tso_board.specs.Boards.{board_id, setup_of};
 ghost use Rattle.tso_board.specs.Passes.{IsPassOf, pass_view};
@@ -97,7 +98,7 @@ fn draw(
     requires board { IsPassOf pass.old board.now }
     requires rest { AtRest (pass_view pass.old) }
     requires driver { (0 < driver) × (driver ≤ (setup_of board.now).drivers) }
-    requires count { (0 < n) × (n < 262144) }
+    requires count { (0 < n) × (n < LOGICAL) }
     ensures board { IsPassOf pass.new board.now }
     ensures rest { AtRest (pass_view pass.new) }
     ensures did { IfOk result (λ answer. PassDid (Took driver n answer) (pass_view pass.old) (pass_view pass.new)) }

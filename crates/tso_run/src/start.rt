@@ -1,7 +1,6 @@
 // The workers of clients before they begin.
 ghost use Rattle.std.specs.Prelude.{◌≡◌, ◌≤◌, All, IfOk, map};
-ghost use Rattle.tso_model.specs.Moves.{numbers_from};
-ghost use Rattle.tso_board.specs.Actors.{client_view};
+ghost use Rattle.tso_model.specs.Moves.{numbers_from, client_view};
 ghost use Rattle.tso_board.specs.Boards.{board_id, setup_of};
 ghost use Rattle.tso_board.specs.Passes.{IsPassOf, pass_view};
 ghost use Rattle.tso_client.specs.Slips.{clients_of, new_slip};

@@ -1,7 +1,6 @@
 // What a driver answers, clients whose gate fixes the order of their lines, and workers of two kinds.
 ghost use Rattle.std.specs.Prelude.{◌≡◌, All, IfOk, map};
-ghost use Rattle.tso_model.specs.Moves.{numbers_from};
-ghost use Rattle.tso_board.specs.Actors.{client_view};
+ghost use Rattle.tso_model.specs.Moves.{numbers_from, client_view};
 ghost use Rattle.tso_board.specs.Boards.{board_id, setup_of};
 ghost use Rattle.tso_board.specs.Passes.{IsPassOf, pass_view};
 ghost use Rattle.tso_driver.specs.Drivers.{IsDriverOf, seat_of};

@@ -7,7 +7,7 @@ use Rattle.tso_model.specs.declared.view.Setup.{Setup}
 use Rattle.tso_board.specs.declared.pass.Pass.{Pass}
 use Rattle.tso_board.specs.declared.seat.DriverSeat.{DriverSeat}
 use Rattle.tso_board.specs.declared.board.Board.{Board}
-use Rattle.tso_board.specs.Actors.{client_view, driver_view}
+use Rattle.tso_model.specs.Moves.{client_view, driver_view}
 use Rattle.tso_board.specs.Passes.{IsPassOf, pass_view}
 use Rattle.tso_board.specs.Seats.{IsSeatOf, seat_view}
 use Rattle.tso_driver.specs.Settled.{IsSettled}

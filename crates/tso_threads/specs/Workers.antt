@@ -1,5 +1,6 @@
 -- What a worker belongs to.
 use Rattle.std.specs.Prelude.{◌<◌, ◌≤◌, ℕ, List, []}
+use Rattle.pd_types.specs.declared.stamp.TheConstants.{LOGICAL}
 use Rattle.tso_model.specs.Steps.{AtRest}
 use Rattle.tso_board.specs.declared.board.Board.{Board}
 use Rattle.tso_board.specs.Boards.{setup_of}
@@ -24,7 +25,7 @@ IsIdleOf b s = IsSeatOf s b × IsSettled (seat_view s)
 
 -- the client's pass is so, and its count is 1 to 262,143
 abbrev pub IsDrawerOf : Drawer → Board → Type 0
-IsDrawerOf d b = IsClientOf b d.pass × (0 < d.count) × (d.count < 262144)
+IsDrawerOf d b = IsClientOf b d.pass × (0 < d.count) × (d.count < LOGICAL)
 
 -- the worker's driver or pass comes from this board
 abbrev pub IsWorkerOf : Board → Worker → Type 0

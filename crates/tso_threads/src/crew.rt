@@ -1,5 +1,6 @@
 // A driver that leads and clients that draw, each for a thread of its own.
 ghost use Rattle.std.specs.Prelude.{◌≡◌, ◌≤◌, ◌<◌, All, IfOk, length, ℕ};
+ghost use Rattle.pd_types.specs.declared.stamp.TheConstants.{LOGICAL};
 ghost use Rattle.tso_driver.specs.Drivers.{IsDriverOf};
 ghost use Rattle.tso_threads.specs.Workers.{HasDriver, IsClientOf, IsDrawerOf, IsIdleOf, IsWorkerOf};
 
@@ -156,7 +157,7 @@ pub fn start(
     tested: bool,
 ) -> Result<(Shared, Vec<Worker>), NoMemory>
     requires clients { (0 < clients) × (clients ≤ 64) }
-    requires count { (0 < count) × (count < 262144) }
+    requires count { (0 < count) × (count < LOGICAL) }
     ensures driver { IfOk result (λ r. HasDriver r.0.board) }
     ensures workers { IfOk result (λ r. All (IsWorkerOf r.0.board) r.1.items) }
 {
@@ -190,7 +191,7 @@ fn add_drawers(
 ) -> Result<(), NoMemory>
     requires passes { All (IsClientOf _board.now) passes.items }
     requires workers { All (IsWorkerOf _board.now) workers.old.items }
-    requires count { (0 < count) × (count < 262144) }
+    requires count { (0 < count) × (count < LOGICAL) }
     ensures workers { All (IsWorkerOf _board.now) workers.new.items }
 {
     for pass in passes {

@@ -1,5 +1,6 @@
 // Each answer of a draw, by one thread over two drivers and two clients.
 ghost use Rattle.std.specs.Prelude.{◌≡◌, ◌<◌, ◌≤◌, All, IfOk};
+ghost use Rattle.pd_types.specs.declared.stamp.TheConstants.{LOGICAL};
 ghost use Rattle.tso_board.specs.Boards.{setup_of};
 ghost use Rattle.tso_driver.specs.Drivers.{IsDriverOf, spare_of};
 ghost use Rattle.tso_threads.specs.Workers.{IsClientOf, IsIdleOf};
@@ -96,7 +97,7 @@ fn draw(
 ) -> Result<Result<Batch, DrawFault>, Fail>
     requires client { IsClientOf board.now pass.old }
     requires driver { (0 < driver) × (driver ≤ (setup_of board.now).drivers) }
-    requires count { (0 < n) × (n < 262144) }
+    requires count { (0 < n) × (n < LOGICAL) }
     ensures client { IsClientOf board.now pass.new }
 {
     pass.reserve(1)?;

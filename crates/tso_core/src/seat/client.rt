@@ -1,5 +1,6 @@
 // What a step of a client makes of what it knows and did.
 ghost use Rattle.std.specs.Prelude.{◌≡◌, ◌+◌, ◌<◌, ◌^◌};
+ghost use Rattle.pd_types.specs.declared.stamp.TheConstants.{LOGICAL};
 ghost use Rattle.tso_model.specs.declared.step.WordStep.TheVariants.{LoadLimit, ArmCount, AddArmed};
 ghost use Rattle.tso_model.specs.History.{added_by};
 ghost use Rattle.tso_model.specs.Steps.{hand};
@@ -43,7 +44,7 @@ impl Seat {
     #[inline(always)]
     pub(super) fn arm(&mut self, n: u64, at: u64) -> Done
         requires fits { HandFits self.old.view }
-        requires n { n < 262144 }
+        requires n { n < LOGICAL }
         requires found { at < 2 ^ 63 + 2 ^ 26 }
         requires room { 0 < self.old.spare }
         ensures done { result ≡ done_of (ArmCount n) at self.old.view }

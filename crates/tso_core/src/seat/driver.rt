@@ -1,5 +1,6 @@
 // What a step of a driver makes of what it knows and did.
 ghost use Rattle.std.specs.Prelude.{◌≡◌, ◌<◌};
+ghost use Rattle.pd_types.specs.declared.oracle.TheConstants.{LAST_TERM};
 ghost use Rattle.tso_model.specs.declared.step.WordStep.TheVariants.{ClaimTerm, SaveEnd, RaiseCursor, StoreLimit, ClearLimit};
 ghost use Rattle.tso_model.specs.Steps.{knows, marks};
 ghost use Rattle.tso_model.specs.Words.{cell_of};
@@ -25,7 +26,7 @@ impl Seat {
 
     pub(super) fn campaign(&mut self, found: u64) -> Done
         requires fits { CellFits self.old.view }
-        requires term { self.old.view.cell.term < 262143 }
+        requires term { self.old.view.cell.term < LAST_TERM }
         requires room { 0 < self.old.spare }
         ensures done { result ≡ done_of ClaimTerm found self.old.view }
         ensures after { self.new ≡ seat_after ClaimTerm found self.old }

@@ -1,7 +1,6 @@
 use Rattle.std.proofs.Common.{rules, ◌≡◌, ◌∙◌, ◌∷◌, length, map, sym, ap, arith, subst}
 use Rattle.pd_turn.specs.Turns.{AreApart}
-use Rattle.tso_model.specs.Moves.{numbers_from}
-use Rattle.tso_board.specs.Actors.{client_view}
+use Rattle.tso_model.specs.Moves.{numbers_from, client_view}
 use Rattle.tso_board.specs.Boards.{setup_of}
 use Rattle.tso_board.specs.Passes.{pass_view}
 use Rattle.tso_client.specs.Slips.{new_slip}

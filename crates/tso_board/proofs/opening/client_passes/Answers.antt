@@ -1,6 +1,6 @@
 use Rattle.std.proofs.Common.{◌≡◌, arith, ap, ◌∙◌, refl}
 use Rattle.tso_board.specs.declared.pass.Pass.{Pass}
-use Rattle.tso_board.specs.Actors.{client_view}
+use Rattle.tso_model.specs.Moves.{client_view}
 use Rattle.tso_board.specs.Passes.{pass_view}
 use Rattle.tso_board.proofs.Giving.{has_client, seat_of_client, base_of_client, one_more, all_more}
 use Rattle.tso_board.proofs.opening.client_passes.Goals as goal

@@ -1,8 +1,7 @@
 use Rattle.std.proofs.Common.{◌≡◌, [], map}
 use Rattle.std.specs.Prelude.{All}
-use Rattle.tso_model.specs.Moves.{numbers_from}
+use Rattle.tso_model.specs.Moves.{numbers_from, client_view}
 use Rattle.tso_board.specs.declared.pass.Pass.{Pass}
-use Rattle.tso_board.specs.Actors.{client_view}
 use Rattle.tso_board.specs.Opened.{left}
 use Rattle.tso_board.specs.Passes.{pass_view}
 use Rattle.tso_board.proofs.opening.client_passes.Given as goal

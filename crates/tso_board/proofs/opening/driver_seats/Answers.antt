@@ -1,6 +1,6 @@
 use Rattle.std.proofs.Common.{◌≡◌, arith, ap, ◌∙◌}
 use Rattle.tso_board.specs.declared.seat.DriverSeat.{DriverSeat}
-use Rattle.tso_board.specs.Actors.{driver_view}
+use Rattle.tso_model.specs.Moves.{driver_view}
 use Rattle.tso_board.specs.Seats.{seat_view}
 use Rattle.tso_board.proofs.Giving.{has_driver, seat_of_driver, base_of_driver, one_more, all_more}
 use Rattle.tso_board.proofs.opening.driver_seats.Goals as goal

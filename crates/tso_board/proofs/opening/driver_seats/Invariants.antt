@@ -1,8 +1,7 @@
 use Rattle.std.proofs.Common.{◌≡◌, [], map}
 use Rattle.std.specs.Prelude.{All}
-use Rattle.tso_model.specs.Moves.{numbers_from}
+use Rattle.tso_model.specs.Moves.{numbers_from, driver_view}
 use Rattle.tso_board.specs.declared.seat.DriverSeat.{DriverSeat}
-use Rattle.tso_board.specs.Actors.{driver_view}
 use Rattle.tso_board.specs.Opened.{left}
 use Rattle.tso_board.specs.Seats.{seat_view}
 use Rattle.tso_board.proofs.opening.driver_seats.Given as goal

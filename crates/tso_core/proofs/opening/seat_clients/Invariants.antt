@@ -1,7 +1,6 @@
 use Rattle.std.proofs.Common.{◌≡◌, ◌++◌, map}
-use Rattle.tso_model.specs.Moves.{numbers_from}
+use Rattle.tso_model.specs.Moves.{numbers_from, client_view}
 use Rattle.tso_core.specs.Seated.{view_of}
-use Rattle.tso_core.specs.Whole.{client_view}
 use Rattle.tso_core.proofs.opening.seat_clients.Given as goal
 
 abbrev pub invariant-loop-index : goal.invariant-loop-index

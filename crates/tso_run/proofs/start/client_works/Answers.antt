@@ -1,6 +1,6 @@
 use Rattle.std.proofs.Common.{rules, ◌≡◌, ◌+◌, refl, length, [], false, sym, ap, arith, subst}
 use Rattle.std.specs.Prelude.{vec_len}
-use Rattle.tso_board.specs.Actors.{client_view}
+use Rattle.tso_model.specs.Moves.{client_view}
 use Rattle.tso_board.specs.Boards.{setup_of}
 use Rattle.tso_board.specs.Passes.{pass_view}
 use Rattle.tso_client.specs.Slips.{new_slip}

@@ -1,6 +1,6 @@
 use Rattle.std.proofs.Common.{◌≡◌, ◌∙◌, ◌+◌, ◌∷◌, ◌++◌, [], false, length, map, refl, sym, ap, arith, subst}
 use Rattle.std.proofs.lemmas.List.{length-map}
-use Rattle.tso_board.specs.Actors.{driver_view}
+use Rattle.tso_model.specs.Moves.{driver_view}
 use Rattle.tso_board.specs.Boards.{setup_of}
 use Rattle.tso_board.specs.Seats.{IsSeatOf, seat_view}
 use Rattle.pd_shared.specs.Names.{streams_of}
