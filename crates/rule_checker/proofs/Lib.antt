@@ -1,8 +1,8 @@
 pub mod BestLemmas
 pub mod RankLemmas
-pub mod SharedLemmas
+pub mod ArrivalLemmas
 pub mod StepLemmas
-pub mod KnownLemmas
+pub mod PoolLemmas
 pub mod PlaceLemmas
 pub mod VerdictLemmas
 pub mod SameLemmas
@@ -12,3 +12,4 @@ mod WordLemmas
 mod DoneLemmas
 pub mod TellLemmas
 pub mod OtherStores
+pub mod LeadLemmas

@@ -30,7 +30,7 @@ use Rattle.rule_checker.specs.declared.class.Class.TheVariants.{Promote, Transfe
 use Rattle.rule_checker.specs.Candidates.{IsCandidate, after_all, lead_part, may_come, steps_of}
 use Rattle.rule_checker.specs.Measure.{HasNumber}
 use Rattle.rule_checker.specs.Repairs.{AreRepairs, IsRepaired}
-use Rattle.rule_checker.proofs.KnownLemmas.{pool_new}
+use Rattle.rule_checker.proofs.PoolLemmas.{pool_new}
 
 -- suits of two last peers that suit the same rules
 last_alike : (leader : ℕ) (stores : List StoreEntry) (now : ℕ) (rules : List Rule) (one other : Peer) → ((r : ℕ) → both_suit leader stores now (Some one) (slice_get rules r) ≡ both_suit leader stores now (Some other) (slice_get rules r)) → (peers : List Peer) (p r : ℕ) → both_suit leader stores now (slice_get (peers ++ one ∷ []) p) (slice_get rules r) ≡ both_suit leader stores now (slice_get (peers ++ other ∷ []) p) (slice_get rules r)

@@ -3,7 +3,7 @@ pub mod Ranks
 pub mod Measure
 pub mod Plan
 pub mod Best
-pub mod Shared
+pub mod Arrival
 pub mod Same
 pub mod Repairs
 pub mod Told

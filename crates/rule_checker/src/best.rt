@@ -1,17 +1,18 @@
 // The best candidate of a class.
-ghost use Rattle.std.specs.Prelude.{◌≡◌, ◌≢◌, ◌<◌, [], ℕ, IfOk, IfSome, IfNone, OnOk, Contains, length};
+ghost use Rattle.std.specs.Prelude.{◌≡◌, ◌≢◌, [], IfOk, IfSome, IfNone, Contains, length};
+ghost use Rattle.std.specs.List.{list_any};
 ghost use Rattle.rule_checker.specs.declared.class.Ranked.{Ranked};
-ghost use Rattle.rule_checker.specs.Best.{IsBestOf};
+ghost use Rattle.rule_checker.specs.Best.{IsBestOf, tells_leader};
 ghost use Rattle.rule_checker.specs.Candidates.{pool};
-ghost use Rattle.rule_checker.specs.Measure.{Lowers};
-ghost use Rattle.rule_checker.specs.Shared.{AreKnown};
+ghost use Rattle.rule_checker.specs.Measure.{HasNumber, Lowers};
 
-use crate::candidate::{passes, pool_at, pool_len};
+use crate::arrival::best_new;
+use crate::candidate::passes;
 use crate::case::Case;
-use crate::measure::{Known, number};
+use crate::measure::number_of;
 use crate::tie::{better_of, score_of};
 use crate::{Class, Ranked};
-use pd_types::{NoMemory, Peer};
+use pd_types::{NoMemory, Peer, Rule, RuleRole};
 use std::alloc::Global;
 
 // The peer as a candidate that lowers the number, or none where it is none.
@@ -20,42 +21,75 @@ fn weigh(
     on: Case,
     class: Class,
     from: u64,
-    peer: Peer,
-    known: &mut Vec<Known>,
+    peer: &Peer,
 ) -> Result<Option<Ranked>, NoMemory>
     requires ruled { on.rules.now ≢ [] }
-    requires held { Contains (pool class on.beat.now on.stores.now) peer }
-    requires known { AreKnown class on.beat.now on.rules.now on.stores.now on.now known.old.items }
+    requires held { Contains (pool class on.beat.now on.stores.now) peer.now }
     ensures some { IfOk result (λ found. IfSome found (Lowers class on.entry.beat.now on.entry.rules.now on.entry.stores.now on.entry.now from)) }
-    ensures same { IfOk result (λ found. IfSome found (λ one. one.peer ≡ peer)) }
-    ensures none { IfOk result (λ found. IfNone found ((one : Ranked) → one.peer ≡ peer → Lowers class on.entry.beat.now on.entry.rules.now on.entry.stores.now on.entry.now from one → ⊥)) }
-    ensures known { OnOk result (AreKnown class on.entry.beat.now on.entry.rules.now on.entry.stores.now on.entry.now known.new.items) }
+    ensures same { IfOk result (λ found. IfSome found (λ one. one.peer ≡ peer.now)) }
+    ensures none { IfOk result (λ found. IfNone found ((one : Ranked) → one.peer ≡ peer.now → Lowers class on.entry.beat.now on.entry.rules.now on.entry.stores.now on.entry.now from one → ⊥)) }
 {
-    if !passes(on, class, &peer) {
+    if !passes(on, class, peer) {
         return Ok(None);
     }
-    let to = number(alloc, on, class, &peer, known)?;
+    let to = number_of(alloc, on, class, peer)?;
     if to >= from {
         return Ok(None);
     }
-    let score = score_of(alloc, on, class, &peer)?;
-    Ok(Some(Ranked { peer, to, score }))
+    let score = score_of(alloc, on, class, peer)?;
+    Ok(Some(Ranked {
+        peer: *peer,
+        to,
+        score,
+    }))
+}
+
+// The best candidate of a class that is about the region's own peers, or none.
+fn best_own(alloc: Global, on: Case, class: Class, from: u64) -> Result<Option<Ranked>, NoMemory>
+    requires ruled { on.rules.now ≢ [] }
+    requires own { pool class on.beat.now on.stores.now ≡ on.beat.now.region.peers }
+    ensures { IfOk result (IsBestOf class on.entry.beat.now on.entry.rules.now on.entry.stores.now on.entry.standing.now on.entry.now from (length (pool class on.entry.beat.now on.entry.stores.now))) }
+{
+    let mut best = None;
+    for peer in on.beat.region.peers.as_slice() {
+        let one = weigh(alloc, on, class, from, peer)?;
+        best = better_of(class, on.standing, best, one);
+    }
+    Ok(best)
+}
+
+// Whether a rule tells the leader from the other voters.
+fn tells_leader(rules: &[Rule]) -> bool
+    ensures { result ≡ list_any tells_leader rules.now }
+{
+    rules.iter().any(|rule| match rule.role {
+        RuleRole::Leader | RuleRole::Follower => true,
+        RuleRole::Voter | RuleRole::Learner => false,
+    })
+}
+
+// The best new leader, or none. Who leads is all one where no rule tells the leader from the other
+// voters.
+fn best_leader(alloc: Global, on: Case, from: u64) -> Result<Option<Ranked>, NoMemory>
+    requires ruled { on.rules.now ≢ [] }
+    requires number { HasNumber on.beat.now on.rules.now on.stores.now on.now from }
+    ensures { IfOk result (IsBestOf Class.Transfer on.entry.beat.now on.entry.rules.now on.entry.stores.now on.entry.standing.now on.entry.now from (length (pool Class.Transfer on.entry.beat.now on.entry.stores.now))) }
+{
+    if !tells_leader(on.rules.as_slice()) {
+        return Ok(None);
+    }
+    best_own(alloc, on, Class::Transfer, from)
 }
 
 /// The best candidate of the class that lowers the number, or none.
 pub fn best_of(alloc: Global, on: Case, class: Class, from: u64) -> Result<Option<Ranked>, NoMemory>
     requires ruled { on.rules.now ≢ [] }
+    requires number { HasNumber on.beat.now on.rules.now on.stores.now on.now from }
     ensures { IfOk result (IsBestOf class on.entry.beat.now on.entry.rules.now on.entry.stores.now on.entry.standing.now on.entry.now from (length (pool class on.entry.beat.now on.entry.stores.now))) }
 {
-    let mut known = Vec::new(alloc);
-    let mut best = None;
-    for place in 0..pool_len(on, class) {
-        let Some(peer) = pool_at(on, class, place) else {
-            continue;
-        };
-        if let Some(one) = weigh(alloc, on, class, from, peer, &mut known)? {
-            best = better_of(class, on.standing, best, one);
-        }
+    match class {
+        Class::Transfer => best_leader(alloc, on, from),
+        Class::Promote | Class::Remove => best_own(alloc, on, class, from),
+        Class::AddVoter | Class::AddLearner => best_new(alloc, on, class, from),
     }
-    Ok(best)
 }

@@ -1,6 +1,7 @@
 // Who may be a candidate, and the steps of one.
-ghost use Rattle.std.specs.Prelude.{◌≡◌, ◌∷◌, ◌++◌, [], IfOk, OnOk, slice_get, length};
-ghost use Rattle.rule_checker.specs.Candidates.{lead_part, may_come, may_go, new_on, new_peers, passes, pool, steps_of};
+ghost use Rattle.std.specs.Prelude.{◌≡◌, ◌∷◌, ◌++◌, [], IfOk, OnOk};
+ghost use Rattle.rule_checker.specs.Arrival.{takes_new};
+ghost use Rattle.rule_checker.specs.Candidates.{lead_part, may_come, may_go, new_on, passes, steps_of};
 
 use crate::Class;
 use crate::case::Case;
@@ -8,7 +9,7 @@ use op_step::{has_store, is_learner, is_target, may_lead, next_leader};
 use pd_types::{MAX_PEERS, NoMemory, Peer, Role, Seq, Step, Steps};
 use rule_fit::total;
 use std::alloc::Global;
-use store_table::Stores;
+use store_table::StoreEntry;
 
 /// The new peer on a store.
 pub fn new_on(store: u64) -> Peer
@@ -21,46 +22,25 @@ pub fn new_on(store: u64) -> Peer
     }
 }
 
-/// How many the class may be about.
-pub fn pool_len(on: Case, class: Class) -> usize
-    ensures { result ≡ length (pool class on.entry.beat.now on.entry.stores.now) }
+/// Whether the store of which this is known may get a new peer.
+pub fn takes_new(on: Case, entry: &StoreEntry) -> bool
+    ensures { result ≡ takes_new on.entry.beat.now entry.now on.entry.now }
 {
-    match class {
-        Class::AddVoter | Class::AddLearner => on.stores.len(),
-        Class::Promote | Class::Transfer | Class::Remove => on.beat.region.peers.len(),
-    }
-}
-
-// The new peer on the store at this place.
-fn new_at(stores: &Stores, place: usize) -> Option<Peer>
-    ensures { result ≡ slice_get (new_peers stores.now) place }
-{
-    match stores.at(place) {
-        Some(rec) => Some(new_on(rec.id)),
-        None => None,
-    }
-}
-
-/// Whom the class may be about, by place.
-pub fn pool_at(on: Case, class: Class, place: usize) -> Option<Peer>
-    ensures { result ≡ slice_get (pool class on.entry.beat.now on.entry.stores.now) place }
-{
-    match class {
-        Class::AddVoter | Class::AddLearner => new_at(on.stores, place),
-        Class::Promote | Class::Transfer | Class::Remove => {
-            on.beat.region.peers.as_slice().get(place).copied()
-        }
-    }
+    entry.is_live(on.now)
+        && entry.is_usable(on.now)
+        && !has_store(entry.store.id, on.beat)
+        && on.beat.region.peers.len() < MAX_PEERS
 }
 
 // Whether the store may get a new peer.
+#[tactic(auto, using(crate::proofs::ArrivalLemmas::may_by_entry))]
 fn may_come(on: Case, store: u64) -> bool
     ensures { result ≡ may_come on.entry.beat.now on.entry.stores.now on.entry.now store }
 {
-    on.stores.is_live(store, on.now)
-        && on.stores.is_usable(store, on.now)
-        && !has_store(store, on.beat)
-        && on.beat.region.peers.len() < MAX_PEERS
+    match on.stores.entry(store) {
+        Some(entry) => takes_new(on, entry),
+        None => false,
+    }
 }
 
 // Whether the peer may go.

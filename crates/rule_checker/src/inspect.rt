@@ -22,6 +22,7 @@ use store_table::Stores;
 
 // The best candidate of the class.
 fn first_of(alloc: Global, on: Case, class: Class, from: u64) -> Result<Option<Ranked>, NoMemory>
+    requires { HasNumber on.beat.now on.rules.now on.stores.now on.now from }
     ensures some { IfOk result (λ best. IfSome best (IsFirst class on.entry.beat.now on.entry.rules.now on.entry.stores.now on.entry.standing.now on.entry.now from)) }
     ensures none { IfOk result (λ best. IfNone best (HasNone class on.entry.beat.now on.entry.rules.now on.entry.stores.now on.entry.now from)) }
 {
@@ -55,6 +56,7 @@ struct Choice {
 
 // The best candidate of the first class that has one.
 fn choose(alloc: Global, on: Case, from: u64) -> Result<Option<Choice>, NoMemory>
+    requires { HasNumber on.beat.now on.rules.now on.stores.now on.now from }
     ensures first { IfOk result (λ choice. IfSome choice (λ one. IsFirst one.class on.entry.beat.now on.entry.rules.now on.entry.stores.now on.entry.standing.now on.entry.now from one.best)) }
     ensures earlier { IfOk result (λ choice. IfSome choice (λ one. (other : Class) → place_of other < place_of one.class → HasNone other on.entry.beat.now on.entry.rules.now on.entry.stores.now on.entry.now from)) }
     ensures none { IfOk result (λ choice. IfNone choice ((class : Class) → HasNone class on.entry.beat.now on.entry.rules.now on.entry.stores.now on.entry.now from)) }

@@ -1,6 +1,7 @@
 //! The plan that mends a region.
 #![tactic(auto)]
 
+mod arrival;
 mod best;
 mod candidate;
 mod case;

@@ -263,6 +263,34 @@ fn equal_totals_may_not_fit(rt: HostRuntime) -> Result<(), Fail> {
     Ok(())
 }
 
+// The peer in z1 suits both rules, and leaves the one of any zone to a new peer in z2, whichever is
+// found for it first. Where both ask for z1, no other store is there.
+#[test]
+fn a_new_peer_comes_where_another_can_move(rt: HostRuntime) -> Result<(), Fail> {
+    let alloc = rt.alloc();
+    let stores = zones(alloc, &["z1", "z2"])?;
+    let beat = region(alloc, &[(1, V)])?;
+    let rows = [
+        (
+            "z1",
+            "",
+            "AddVoter 1 0, add-learner peer 0 store 2, promote-learner peer 0 store 2",
+        ),
+        (
+            "",
+            "z1",
+            "AddVoter 1 0, add-learner peer 0 store 2, promote-learner peer 0 store 2",
+        ),
+        ("z1", "z1", "stuck 1"),
+    ];
+    for (one, other, says_so) in rows {
+        let rules = two(alloc, one, other)?;
+        let text = says(alloc, &beat, &rules, &stores, 1000)?;
+        assert_eq!(rt; text.as_str(), says_so, "{one} {other}");
+    }
+    Ok(())
+}
+
 #[test]
 fn a_border_is_named(rt: HostRuntime) -> Result<(), Fail> {
     let alloc = rt.alloc();

@@ -9,7 +9,7 @@ use crate::case::Case;
 use crate::{Class, Ranked};
 use heartbeat::Standing;
 use pd_types::{Ids, NoMemory, Peer, Texts};
-use rule_fit::{isolation_score, satisfies_rule};
+use rule_fit::{isolation_score, labels_of, satisfies_all};
 use std::alloc::Global;
 
 // The isolation score of the store by the labels of the first rule whose constraints it satisfies.
@@ -17,8 +17,9 @@ fn score_beside(alloc: Global, on: Case, store: u64, others: &Ids) -> u64
     requires others { length others.now ≤ 15 }
     ensures { result ≡ score_beside on.entry.rules.now on.entry.stores.now store others.now }
 {
+    let labels = labels_of(on.stores, store);
     for rule in on.rules.as_slice() {
-        if satisfies_rule(on.stores, store, rule) {
+        if satisfies_all(labels, rule.constraints.as_slice()) {
             return isolation_score(on.stores, store, others, &rule.locations);
         }
     }
@@ -112,15 +113,18 @@ pub fn is_before(class: Class, standing: &Standing, one: &Ranked, other: &Ranked
     one.to < other.to || (one.to == other.to && wins_tie(class, standing, one, other))
 }
 
-/// The one of the two that goes first.
+/// The one of the two that goes first; of one and none the one.
 pub fn better_of(
     class: Class,
     standing: &Standing,
     best: Option<Ranked>,
-    one: Ranked,
+    one: Option<Ranked>,
 ) -> Option<Ranked>
     ensures { result ≡ better_of (is_before class standing.now) best one }
 {
+    let Some(one) = one else {
+        return best;
+    };
     match best {
         Some(best) => {
             if is_before(class, standing, &one, &best) {

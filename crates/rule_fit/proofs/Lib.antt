@@ -13,3 +13,6 @@ pub mod PickLemmas
 pub mod ConstraintLemmas
 pub mod Members
 pub mod WayLemmas
+pub mod EntryLemmas
+pub mod RoomLemmas
+mod IsolationLemmas

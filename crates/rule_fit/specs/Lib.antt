@@ -10,4 +10,5 @@ pub mod Search
 pub mod Fit
 pub mod Isolation
 pub mod Ways
+pub mod Room
 pub mod Question

@@ -10,6 +10,7 @@ use Rattle.rule_fit.specs.declared.answer.Fit.{Fit}
 use Rattle.rule_fit.specs.Assignment.{Fits, IsAssignment, IsGreatest}
 use Rattle.rule_fit.specs.Certificate.{Certifies, IsMisfitNumber}
 use Rattle.rule_fit.specs.Fit.{HasItsKind, IsCertified}
+use Rattle.rule_fit.specs.Room.{AreRooms}
 use Rattle.rule_fit.specs.Suits.{counts_of, suits_in}
 
 -- which peers suit which rules, the peers, and the counts of the rules
@@ -37,6 +38,10 @@ IsGreatestIn q given = IsGreatest q.suits (length q.peers) q.counts given
 -- how far the region is from a fit
 abbrev pub IsMisfitIn : Question → ℕ → Type 0
 IsMisfitIn q number = IsMisfitNumber q.suits (length q.peers) q.counts number
+
+-- the marked rules are those that have room for one peer more
+abbrev pub AreRoomsIn : Question → List Bool → Type 0
+AreRoomsIn q rooms = AreRooms q.suits (length q.peers) q.counts rooms
 
 -- the certificate shows that there is no fit
 abbrev pub CertifiesIn : Question → Certificate → Type 0

@@ -16,6 +16,7 @@ use Rattle.pd_types.specs.Roles.{is_voter, is_learner}
 use Rattle.std.specs.Str.{bytes_eq}
 use Rattle.store_table.specs.declared.entry.StoreEntry.{StoreEntry}
 use Rattle.store_table.specs.Entries.{entry_at, is_usable}
+use Rattle.store_table.specs.Live.{usable_test}
 
 -- the value of the first label with this key; an absent label has the empty value
 abbrev pub value_of : List ℕ → List Label → List ℕ
@@ -50,6 +51,10 @@ labels_in (Some entry) = entry.store.labels
 abbrev pub labels_of : ℕ → List StoreEntry → List Label
 labels_of store stores = labels_in (entry_at store stores)
 
+-- the store of which this is known is usable and satisfies all constraints of the rule
+abbrev pub entry_suits : StoreEntry → ℕ → Rule → Bool
+entry_suits entry now rule = usable_test entry now && satisfies_all entry.store.labels rule.constraints
+
 -- the store is usable and satisfies all constraints of the rule
 abbrev pub store_suits : List StoreEntry → ℕ → ℕ → Rule → Bool
 store_suits stores now store rule = is_usable store now stores && satisfies_all (labels_of store stores) rule.constraints
@@ -65,6 +70,12 @@ role_suits asks.Learner role leads = is_learner role
 abbrev pub peer_suits : ℕ → List StoreEntry → ℕ → Peer → Rule → Bool
 peer_suits leader stores now peer rule =
     store_suits stores now peer.store rule && role_suits rule.role peer.role (nat_eq peer.id leader)
+
+-- the peer suits the rule, where this is known of its store; on a store that isn't known it suits none
+abbrev pub suits_on : ℕ → Option StoreEntry → ℕ → Peer → Rule → Bool
+suits_on leader None now peer rule = false
+suits_on leader (Some entry) now peer rule =
+    entry_suits entry now rule && role_suits rule.role peer.role (nat_eq peer.id leader)
 
 -- both are there, and the peer suits the rule
 abbrev pub both_suit : ℕ → List StoreEntry → ℕ → Option Peer → Option Rule → Bool

@@ -1,4 +1,4 @@
-ghost use Rattle.std.specs.Prelude.{Bool, ◌≡◌, ◌≢◌, ◌↔◌, ◌+◌, ℕ, List, [], ◌∷◌, length, true, false, nat_eq, not, sum, All, Contains};
+ghost use Rattle.std.specs.Prelude.{Bool, ◌≡◌, ◌≢◌, ◌↔◌, ◌+◌, ◌-◌, ◌<◌, ℕ, List, [], ◌∷◌, length, true, false, nat_eq, not, sum, All, Contains};
 ghost use Rattle.pd_types.specs.declared.region.Peer.{Peer};
 ghost use Rattle.pd_types.specs.declared.region.Role.{Role};
 ghost use Rattle.pd_types.specs.declared.region.Role.TheVariants.{Voter, Learner};
@@ -14,6 +14,7 @@ ghost use Rattle.rule_fit.specs.Suits.{is_among, labels_of, passes, peer_suits, 
 ghost use Rattle.rule_fit.specs.Assignment.{Fits};
 ghost use Rattle.rule_fit.specs.Certificate.{Certifies, IsMisfitNumber};
 ghost use Rattle.rule_fit.specs.Fit.{IsOfItsKind};
+ghost use Rattle.rule_fit.specs.Room.{HasRoom};
 ghost use Rattle.rule_fit.specs.Ways.{misfit_number};
 ghost use Rattle.rule_fit.specs.declared.answer.Certificate.{Certificate};
 ghost use Rattle.rule_fit.specs.declared.answer.Certificate.TheVariants.{Totals, Peers};
@@ -117,4 +118,17 @@ pub fn each_constraint_is_asked()
     ensures first { (label : Label) (labels : List Label) → value_of label.key (label ∷ labels) ≡ label.value }
     ensures behind { (key : List ℕ) (label : Label) (labels : List Label) → label.key ≢ key →
         value_of key (label ∷ labels) ≡ value_of key labels }
+{}
+
+/// One peer more, beside peers that suit what they suited, lowers the misfit number by one where it
+/// suits a rule that has room, and lowers it only there.
+pub fn a_rule_with_room_takes_one_peer_more()
+    ensures lowers { (test more : ℕ → ℕ → Bool) (peers : ℕ) (counts : List ℕ) (rule n : ℕ) →
+        ((p r : ℕ) → p < peers → more p r ≡ test p r) →
+        IsMisfitNumber test peers counts n → HasRoom test peers counts rule →
+        more peers rule ≡ true → IsMisfitNumber more (peers + 1) counts (n - 1) × (0 < n) }
+    ensures only { (test more : ℕ → ℕ → Bool) (peers : ℕ) (counts : List ℕ) (n m : ℕ) →
+        ((p r : ℕ) → p < peers → more p r ≡ test p r) →
+        IsMisfitNumber test peers counts n → IsMisfitNumber more (peers + 1) counts m → m < n →
+        (rule : ℕ) × HasRoom test peers counts rule × (more peers rule ≡ true) }
 {}

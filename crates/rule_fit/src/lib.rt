@@ -8,6 +8,7 @@ mod ids;
 mod isolation;
 mod laws;
 mod region;
+mod room;
 mod search;
 mod suiting;
 mod table;
@@ -20,8 +21,11 @@ pub use ids::are_apart;
 pub use isolation::isolation_score;
 pub use laws::{
     a_follower_is_a_voter_that_does_not_lead, a_peer_suits_by_its_store_and_its_role,
-    certificate_refutes, each_constraint_is_asked, notin_is_the_opposite_of_in, one_misfit_number,
-    the_first_label_weighs_most, totals_come_first,
+    a_rule_with_room_takes_one_peer_more, certificate_refutes, each_constraint_is_asked,
+    notin_is_the_opposite_of_in, one_misfit_number, the_first_label_weighs_most, totals_come_first,
 };
 pub use region::{fit, misfit_number};
-pub use suiting::{peer_suits, satisfies_all, satisfies_rule, store_suits};
+pub use room::rooms;
+pub use suiting::{
+    entry_suits, labels_of, peer_suits, satisfies_all, satisfies_rule, store_suits, suits_on,
+};

@@ -31,7 +31,8 @@ pub fn suits(table: &[Vec<bool>], peer: usize, rule: u32) -> bool
     }
 }
 
-fn held(given: &[Option<u32>], rule: u32) -> usize
+/// How many peers have the rule.
+pub fn held(given: &[Option<u32>], rule: u32) -> usize
     ensures { result ≡ held given.now rule }
 {
     given.iter().filter(|place| **place == Some(rule)).count()

@@ -1,8 +1,9 @@
 ghost use Rattle.std.specs.Prelude.{◌≡◌, List, ℕ};
-ghost use Rattle.rule_fit.specs.Suits.{value_of, satisfies, satisfies_all, store_suits, role_suits, peer_suits, labels_of, is_among};
+ghost use Rattle.std.specs.Option.{option_copied};
+ghost use Rattle.rule_fit.specs.Suits.{value_of, satisfies, satisfies_all, entry_suits, store_suits, role_suits, suits_on, peer_suits, labels_of, is_among};
 
 use pd_types::{Constraint, Constraints, Label, Op, Peer, Role, Rule, RuleRole, Text};
-use store_table::Stores;
+use store_table::{StoreEntry, Stores};
 
 /// The value of a label, empty where there is none.
 pub fn value_of<'a>(key: &[u8], labels: &'a [Label]) -> &'a [u8]
@@ -44,23 +45,42 @@ pub fn satisfies_all(labels: &[Label], constraints: &[Constraint]) -> bool
     constraints.iter().all(|one| satisfies(labels, one))
 }
 
+/// The labels of a store; none where it isn't known.
+pub fn labels_of<'a>(stores: &'a Stores, store: u64) -> &'a [Label]
+    ensures value { result.now ≡ labels_of store stores.now }
+{
+    match stores.get(store) {
+        Some(rec) => rec.labels.as_slice(),
+        None => &[],
+    }
+}
+
 /// Whether the store satisfies all constraints of the rule. A store that isn't known has no labels.
 pub fn satisfies_rule(stores: &Stores, store: u64, rule: &Rule) -> bool
     ensures value { result ≡ satisfies_all (labels_of store stores.now) rule.now.constraints }
 {
-    let constraints = rule.constraints.as_slice();
-    match stores.get(store) {
-        Some(rec) => satisfies_all(rec.labels.as_slice(), constraints),
-        None => satisfies_all(&[], constraints),
-    }
+    satisfies_all(labels_of(stores, store), rule.constraints.as_slice())
+}
+
+/// Whether a peer on the store of which this is known may count for the rule, its role aside: the
+/// store is usable and satisfies all constraints.
+pub fn entry_suits(entry: &StoreEntry, now: u64, rule: &Rule) -> bool
+    ensures value { result ≡ entry_suits entry.now now rule.now }
+{
+    let labels = entry.store.labels.as_slice();
+    entry.is_usable(now) && satisfies_all(labels, rule.constraints.as_slice())
 }
 
 /// Whether a peer on the store may count for the rule, its role aside: the store is usable and
 /// satisfies all constraints.
+#[tactic(auto, using(crate::proofs::EntryLemmas::store_by_entry))]
 pub fn store_suits(stores: &Stores, now: u64, store: u64, rule: &Rule) -> bool
     ensures value { result ≡ store_suits stores.now now store rule.now }
 {
-    stores.is_usable(store, now) && satisfies_rule(stores, store, rule)
+    match stores.entry(store) {
+        Some(entry) => entry_suits(entry, now, rule),
+        None => false,
+    }
 }
 
 // Whether a peer of this role, which leads or doesn't, may count for a rule of that role.
@@ -75,10 +95,22 @@ fn role_suits(rule: RuleRole, role: Role, leads: bool) -> bool
     }
 }
 
+/// Whether the peer suits the rule, in a region with this leader, where this is known of its store.
+pub fn suits_on(leader: u64, entry: Option<&StoreEntry>, now: u64, peer: &Peer, rule: &Rule) -> bool
+    ensures value { result ≡ suits_on leader (option_copied entry.entry) now peer.now rule.now }
+{
+    match entry {
+        Some(entry) => {
+            role_suits(rule.role, peer.role, peer.id == leader) && entry_suits(entry, now, rule)
+        }
+        None => false,
+    }
+}
+
 /// Whether the peer suits the rule, in a region with this leader.
+#[tactic(auto, using(crate::proofs::EntryLemmas::peer_by_entry))]
 pub fn peer_suits(leader: u64, stores: &Stores, now: u64, peer: &Peer, rule: &Rule) -> bool
     ensures value { result ≡ peer_suits leader stores.now now peer.now rule.now }
 {
-    store_suits(stores, now, peer.store, rule)
-        && role_suits(rule.role, peer.role, peer.id == leader)
+    suits_on(leader, stores.entry(peer.store), now, peer, rule)
 }

@@ -4,12 +4,13 @@ ghost use Rattle.rule_fit.specs.Search.{IsClosed};
 ghost use Rattle.rule_fit.specs.Suits.{peer_suits, suits_in, counts_of};
 
 use crate::assign::{Matching, greatest};
-use crate::suiting::peer_suits;
+use crate::suiting::suits_on;
 use pd_types::{NoMemory, Peer, RegionBeat, Rule};
 use std::alloc::Global;
 use store_table::Stores;
 
-// Which rules the peer suits.
+// Which rules the peer suits. Its store is looked up once.
+#[tactic(auto, using(crate::proofs::EntryLemmas::peer_by_entry))]
 fn row(
     alloc: Global,
     leader: u64,
@@ -20,15 +21,16 @@ fn row(
 ) -> Result<Vec<bool>, NoMemory>
     ensures { IfOk result (λ row. row.items ≡ map (peer_suits leader stores.now now peer.now) rules.now) }
 {
+    let entry = stores.entry(peer.store);
     let mut row = Vec::new(alloc);
     for rule in rules {
-        row.push(peer_suits(leader, stores, now, peer, rule))?;
+        row.push(suits_on(leader, entry, now, peer, rule))?;
     }
     Ok(row)
 }
 
-// Which peer suits which rule.
-fn table(
+/// Which peer suits which rule.
+pub fn table(
     alloc: Global,
     leader: u64,
     stores: &Stores,
@@ -45,7 +47,8 @@ fn table(
     Ok(table)
 }
 
-fn counts(alloc: Global, rules: &[Rule]) -> Result<Vec<u32>, NoMemory>
+/// The counts of the rules.
+pub fn counts(alloc: Global, rules: &[Rule]) -> Result<Vec<u32>, NoMemory>
     ensures { IfOk result (λ counts. counts.items ≡ counts_of rules.now) }
 {
     let mut counts = Vec::new(alloc);

@@ -2,7 +2,7 @@ mod agreement;
 
 use crate::{
     Certificate, Fit, are_apart, check_certificate, fit, isolation_score, misfit_number,
-    peer_suits, satisfies_all,
+    peer_suits, rooms, satisfies_all,
 };
 use pd_types::{
     Bytes, Constraint, Constraints, Downs, Epoch, Ids, Label, Labels, Op, Peer, Peers, Region,
@@ -200,6 +200,29 @@ fn a_certificate_is_of_its_kind(rt: HostRuntime) -> Result<(), Fail> {
     assert_eq!(rt; two.as_str(), "peers [11, 13]");
     let fits = certified(alloc, &[(2, "z1"), (1, "z2")])?;
     assert_eq!(rt; fits.as_str(), "fits");
+    Ok(())
+}
+
+// Which rules have room beside voters on the stores 1, 2, .., of which the first and the third are in
+// zone z1 and the second in z2. A rule of any zone has room where its peer can have another.
+#[test]
+fn a_rule_has_room_where_its_peer_can_move(rt: HostRuntime) -> Result<(), Fail> {
+    let alloc = rt.alloc();
+    let stores = three_stores(alloc)?;
+    let rows = [
+        (1, [(1, "z1"), (1, "z2")], [false, true]),
+        (2, [(1, "z1"), (1, "z2")], [false, false]),
+        (3, [(1, "z1"), (2, "z2")], [false, true]),
+        (2, [(1, "z1"), (2, "z1")], [true, true]),
+        (1, [(0, "z1"), (1, "z1")], [false, false]),
+    ];
+    for (row, (peers, asked, marks)) in rows.into_iter().enumerate() {
+        let beat = region(alloc, &[Role::Voter; 3][..peers])?;
+        let rules = zone_rules(alloc, &asked)?;
+        assert!(rt; rules.len() <= 64);
+        let found = rooms(alloc, &beat, &rules, &stores, 20)?;
+        assert_eq!(rt; found.as_slice(), marks.as_slice(), "row {row}");
+    }
     Ok(())
 }
 

@@ -137,8 +137,8 @@ impl Stores {
         }
     }
 
-    // The entry of a store.
-    fn entry(&self, id: u64) -> Option<&StoreEntry>
+    /// What is known of a store; none where it isn't known.
+    pub fn entry(&self, id: u64) -> Option<&StoreEntry>
         ensures value { option_copied result ≡ entry_at id self.now }
     {
         match search(&self.entries, id) {
@@ -163,6 +163,14 @@ impl Stores {
         ensures few { result ≤ MOST_STORES }
     {
         self.entries.len()
+    }
+
+    /// What is known of each store, by rising id.
+    pub fn entries(&self) -> &[StoreEntry]
+        ensures value { result.now ≡ self.now }
+        ensures rising { AreRising self.now }
+    {
+        &self.entries
     }
 
     /// The record at a place, counted from 0 by rising id; none past the end.

@@ -1,0 +1,115 @@
+// The best store for a new peer.
+ghost use Rattle.std.specs.Prelude.{◌≡◌, ◌≢◌, ◌↔◌, [], false, Some, IfOk, IfSome, IfNone, IsTrue, Contains, length};
+ghost use Rattle.std.specs.List.{list_any};
+ghost use Rattle.store_table.specs.Entries.{entry_at};
+ghost use Rattle.op_step.specs.Peers.{has_id};
+ghost use Rattle.rule_fit.specs.Question.{AreRoomsIn, question};
+ghost use Rattle.rule_checker.specs.declared.class.Ranked.{Ranked};
+ghost use Rattle.rule_checker.specs.Arrival.{Adds, FindsRoom, arrived};
+ghost use Rattle.rule_checker.specs.Best.{IsBestOf};
+ghost use Rattle.rule_checker.specs.Candidates.{new_on, pool};
+ghost use Rattle.rule_checker.specs.Measure.{HasNumber, Lowers};
+
+use crate::candidate::{new_on, takes_new};
+use crate::case::Case;
+use crate::tie::{better_of, score_of};
+use crate::{Class, Ranked};
+use op_step::has_id;
+use pd_types::{NoMemory, Peer, Role};
+use rule_fit::{rooms, suits_on};
+use std::alloc::Global;
+use store_table::StoreEntry;
+
+// The new peer as the steps leave it.
+fn arrived(class: Class, store: u64) -> Peer
+    ensures { result ≡ arrived class store }
+{
+    let role = match class {
+        Class::AddVoter => Role::Voter,
+        Class::Promote | Class::Transfer | Class::AddLearner | Class::Remove => Role::Learner,
+    };
+    Peer { id: 0, store, role }
+}
+
+// Whether the peer suits a rule that has room.
+fn finds_room(on: Case, entry: &StoreEntry, peer: &Peer, rooms: &[bool]) -> bool
+    requires { length rooms.now ≡ length on.rules.now }
+    ensures { IsTrue result ↔ FindsRoom on.entry.beat.now.leader entry.now on.entry.now peer.now on.entry.rules.now rooms.now }
+{
+    for (place, rule) in on.rules.as_slice().iter().enumerate() {
+        if !rooms[place] {
+            continue;
+        }
+        if suits_on(on.beat.leader, Some(entry), on.now, peer, rule) {
+            return true;
+        }
+    }
+    false
+}
+
+// Whether a rule has room.
+fn any_has_room(rooms: &[bool]) -> bool
+    ensures { result ≡ list_any (λ room. room) rooms.now }
+{
+    rooms.iter().any(|room| *room)
+}
+
+// The new peer on the store as a candidate that lowers the number, or none where it is none.
+fn weigh(
+    alloc: Global,
+    on: Case,
+    class: Class,
+    from: u64,
+    entry: &StoreEntry,
+    rooms: &[bool],
+) -> Result<Option<Ranked>, NoMemory>
+    requires ruled { on.rules.now ≢ [] }
+    requires adds { Adds class }
+    requires number { HasNumber on.beat.now on.rules.now on.stores.now on.now from }
+    requires free { has_id 0 on.beat.now ≡ false }
+    requires rooms { AreRoomsIn (question on.beat.now on.rules.now on.stores.now on.now) rooms.now }
+    requires known { entry_at entry.now.store.id on.stores.now ≡ Some entry.now }
+    requires held { Contains (pool class on.beat.now on.stores.now) (new_on entry.now.store.id) }
+    ensures some { IfOk result (λ found. IfSome found (Lowers class on.entry.beat.now on.entry.rules.now on.entry.stores.now on.entry.now from)) }
+    ensures same { IfOk result (λ found. IfSome found (λ one. one.peer ≡ new_on entry.now.store.id)) }
+    ensures none { IfOk result (λ found. IfNone found ((one : Ranked) → one.peer ≡ new_on entry.now.store.id → Lowers class on.entry.beat.now on.entry.rules.now on.entry.stores.now on.entry.now from one → ⊥)) }
+{
+    if !takes_new(on, entry) {
+        return Ok(None);
+    }
+    if !finds_room(on, entry, &arrived(class, entry.store.id), rooms) {
+        return Ok(None);
+    }
+    let peer = new_on(entry.store.id);
+    let to = from - 1;
+    let score = score_of(alloc, on, class, &peer)?;
+    Ok(Some(Ranked { peer, to, score }))
+}
+
+/// The best new peer of the class that lowers the number, or none. It lowers the number by one where
+/// it suits a rule that has room, and only there. A region that has a peer of the id 0 gets none.
+pub fn best_new(
+    alloc: Global,
+    on: Case,
+    class: Class,
+    from: u64,
+) -> Result<Option<Ranked>, NoMemory>
+    requires ruled { on.rules.now ≢ [] }
+    requires adds { Adds class }
+    requires number { HasNumber on.beat.now on.rules.now on.stores.now on.now from }
+    ensures { IfOk result (IsBestOf class on.entry.beat.now on.entry.rules.now on.entry.stores.now on.entry.standing.now on.entry.now from (length (pool class on.entry.beat.now on.entry.stores.now))) }
+{
+    if has_id(0, on.beat) {
+        return Ok(None);
+    }
+    let rooms = rooms(alloc, on.beat, on.rules, on.stores, on.now)?;
+    if !any_has_room(&rooms) {
+        return Ok(None);
+    }
+    let mut best = None;
+    for entry in on.stores.entries() {
+        let one = weigh(alloc, on, class, from, entry, &rooms)?;
+        best = better_of(class, on.standing, best, one);
+    }
+    Ok(best)
+}

@@ -1,6 +1,0 @@
-use Rattle.std.proofs.Common.{◌≡◌, drop}
-use Rattle.rule_fit.specs.Isolation.{score_beside}
-use Rattle.rule_fit.proofs.isolation.score_beside.Given as goal
-
-abbrev pub invariant-loop-place : goal.invariant-loop-place
-invariant-loop-place l = score_beside l.stores l.one l.other (drop l.place l.labels) ≡ score_beside l.stores l.one l.other l.labels
