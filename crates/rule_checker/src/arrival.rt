@@ -9,13 +9,14 @@ ghost use Rattle.rule_checker.specs.Arrival.{Adds, FindsRoom, arrived};
 ghost use Rattle.rule_checker.specs.Best.{IsBestOf};
 ghost use Rattle.rule_checker.specs.Candidates.{new_on, pool};
 ghost use Rattle.rule_checker.specs.Measure.{HasNumber, Lowers};
+ghost use Rattle.rule_checker.specs.Ranks.{stores_of};
 
 use crate::candidate::{new_on, takes_new};
 use crate::case::Case;
-use crate::tie::{better_of, score_of};
+use crate::tie::{better_of, score_beside, stores_of};
 use crate::{Class, Ranked};
 use op_step::has_id;
-use pd_types::{NoMemory, Peer, Role};
+use pd_types::{Ids, NoMemory, Peer, Role};
 use rule_fit::{rooms, suits_on};
 use std::alloc::Global;
 use store_table::StoreEntry;
@@ -62,28 +63,31 @@ fn weigh(
     from: u64,
     entry: &StoreEntry,
     rooms: &[bool],
-) -> Result<Option<Ranked>, NoMemory>
+    others: &Ids,
+) -> Option<Ranked>
     requires ruled { on.rules.now ≢ [] }
     requires adds { Adds class }
     requires number { HasNumber on.beat.now on.rules.now on.stores.now on.now from }
     requires free { has_id 0 on.beat.now ≡ false }
     requires rooms { AreRoomsIn (question on.beat.now on.rules.now on.stores.now on.now) rooms.now }
+    requires others { others.now ≡ stores_of on.beat.now.region.peers }
     requires known { entry_at entry.now.store.id on.stores.now ≡ Some entry.now }
     requires held { Contains (pool class on.beat.now on.stores.now) (new_on entry.now.store.id) }
-    ensures some { IfOk result (λ found. IfSome found (Lowers class on.entry.beat.now on.entry.rules.now on.entry.stores.now on.entry.now from)) }
-    ensures same { IfOk result (λ found. IfSome found (λ one. one.peer ≡ new_on entry.now.store.id)) }
-    ensures none { IfOk result (λ found. IfNone found ((one : Ranked) → one.peer ≡ new_on entry.now.store.id → Lowers class on.entry.beat.now on.entry.rules.now on.entry.stores.now on.entry.now from one → ⊥)) }
+    ensures some { IfSome result (Lowers class on.entry.beat.now on.entry.rules.now on.entry.stores.now on.entry.now from) }
+    ensures same { IfSome result (λ one. one.peer ≡ new_on entry.now.store.id) }
+    ensures none { IfNone result ((one : Ranked) → one.peer ≡ new_on entry.now.store.id → Lowers class on.entry.beat.now on.entry.rules.now on.entry.stores.now on.entry.now from one → ⊥) }
 {
+    let store = entry.store.id;
+    if !finds_room(on, entry, &arrived(class, store), rooms) {
+        return None;
+    }
     if !takes_new(on, entry) {
-        return Ok(None);
+        return None;
     }
-    if !finds_room(on, entry, &arrived(class, entry.store.id), rooms) {
-        return Ok(None);
-    }
-    let peer = new_on(entry.store.id);
+    let peer = new_on(store);
     let to = from - 1;
-    let score = score_of(alloc, on, class, &peer)?;
-    Ok(Some(Ranked { peer, to, score }))
+    let score = score_beside(alloc, on, store, others);
+    Some(Ranked { peer, to, score })
 }
 
 /// The best new peer of the class that lowers the number, or none. It lowers the number by one where
@@ -106,9 +110,10 @@ pub fn best_new(
     if !any_has_room(&rooms) {
         return Ok(None);
     }
+    let others = stores_of(alloc, on.beat.region.peers.as_slice())?;
     let mut best = None;
     for entry in on.stores.entries() {
-        let one = weigh(alloc, on, class, from, entry, &rooms)?;
+        let one = weigh(alloc, on, class, from, entry, &rooms, &others);
         best = better_of(class, on.standing, best, one);
     }
     Ok(best)

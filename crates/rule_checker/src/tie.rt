@@ -12,8 +12,8 @@ use pd_types::{Ids, NoMemory, Peer, Texts};
 use rule_fit::{isolation_score, labels_of, satisfies_all};
 use std::alloc::Global;
 
-// The isolation score of the store by the labels of the first rule whose constraints it satisfies.
-fn score_beside(alloc: Global, on: Case, store: u64, others: &Ids) -> u64
+/// The isolation score of the store by the labels of the first rule whose constraints it satisfies.
+pub fn score_beside(alloc: Global, on: Case, store: u64, others: &Ids) -> u64
     requires others { length others.now ≤ 15 }
     ensures { result ≡ score_beside on.entry.rules.now on.entry.stores.now store others.now }
 {
@@ -26,8 +26,8 @@ fn score_beside(alloc: Global, on: Case, store: u64, others: &Ids) -> u64
     isolation_score(on.stores, store, others, &Texts::new(alloc))
 }
 
-// The stores of the peers.
-fn stores_of(alloc: Global, peers: &[Peer]) -> Result<Ids, NoMemory>
+/// The stores of the peers.
+pub fn stores_of(alloc: Global, peers: &[Peer]) -> Result<Ids, NoMemory>
     ensures { IfOk result (λ stores. stores ≡ stores_of peers.now) }
 {
     let mut stores = Ids::new(alloc);

@@ -23,13 +23,13 @@ returns-then-not-any_has_room c =
     λ k one low at lowers. no_rooms c.args.class on.beat.now on.rules.now on.stores.now on.now c.args.from c.in_ok-rooms.rooms.items one c.requires.adds (sym c.has_id.ensures.value ∙ c.if-has_id.false) c.requires.number c.in_ok-rooms.ensures.value
     (ap (λ (rooms : List Bool). list_any (λ room. room) rooms) (sym c.deref.ensures.value) ∙ sym c.any_has_room.ensures ∙ c.if-not-any_has_room.true) lowers
 
-pub weigh-requires-clause-known : goal.weigh-requires-clause-known
-weigh-requires-clause-known c =
+pub weigh-one-requires-clause-known : goal.weigh-one-requires-clause-known
+weigh-one-requires-clause-known c =
     let there = entry_there c.entries-entry-items.result.now c.args.on.stores.now c.loop-entry.entry-index c.entry-item.result c.entries-entry-items.ensures.value c.loop-entry-test.true c.entry-item.is in
     entry_of_place c.args.on.stores.now c.loop-entry.entry-index c.entry-item.result c.entries-entry-items.ensures.rising there
 
-pub weigh-requires-clause-held : goal.weigh-requires-clause-held
-weigh-requires-clause-held c =
+pub weigh-one-requires-clause-held : goal.weigh-one-requires-clause-held
+weigh-one-requires-clause-held c =
     let there = entry_there c.entries-entry-items.result.now c.args.on.stores.now c.loop-entry.entry-index c.entry-item.result c.entries-entry-items.ensures.value c.loop-entry-test.true c.entry-item.is in
     at_held (pool c.args.class c.args.on.beat.now c.args.on.stores.now) c.loop-entry.entry-index (new_on c.entry-item.result.store.id) (pool_at c.args.class c.args.on.beat.now c.args.on.stores.now c.loop-entry.entry-index c.entry-item.result c.requires.adds there)
 
@@ -37,11 +37,11 @@ pub loop-entry-preserved : goal.loop-entry-preserved
 loop-entry-preserved c =
     let on = c.args.on in
     let there = entry_there c.entries-entry-items.result.now on.stores.now c.loop-entry.entry-index c.entry-item.result c.entries-entry-items.ensures.value c.loop-entry-test.true c.entry-item.is in
-    let told = c.in_ok-one.ensures in
+    let told = c.weigh-one.ensures in
     subst (λ (o : Option Ranked). IsBestOf c.args.class c.args.on.beat.now c.args.on.rules.now c.args.on.stores.now c.args.on.standing.now c.args.on.now c.args.from (c.loop-entry.entry-index + 1) o) (sym c.better_of-best.ensures)
     (best_next (Lowers c.args.class on.beat.now on.rules.now on.stores.now on.now c.args.from) (is_before c.args.class on.standing.now)
     (class_choice c.args.class on.beat.now on.rules.now on.stores.now on.standing.now on.now c.args.from)
-    (pool c.args.class on.beat.now on.stores.now) c.loop-entry.entry-index (new_on c.entry-item.result.store.id) c.loop-entry.best c.in_ok-one.one
+    (pool c.args.class on.beat.now on.stores.now) c.loop-entry.entry-index (new_on c.entry-item.result.store.id) c.loop-entry.best c.weigh-one.result
     (pool_at c.args.class on.beat.now on.stores.now c.loop-entry.entry-index c.entry-item.result c.requires.adds there)
     told.some told.same told.none c.loop-entry.invariant)
 
