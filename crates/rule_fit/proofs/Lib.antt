@@ -15,4 +15,4 @@ pub mod Members
 pub mod WayLemmas
 pub mod EntryLemmas
 pub mod RoomLemmas
-mod IsolationLemmas
+pub mod IsolationLemmas

@@ -32,3 +32,7 @@ score_by one other (label ∷ labels) = if differ_by one other label then 100 ^ 
 -- the sum of a store with these labels beside all others
 abbrev pub score_from : List Label → List StoreEntry → List ℕ → List (List ℕ) → ℕ
 score_from own stores others labels = sum_by (λ other. score_by own (labels_of other stores) labels) others
+
+-- the sum of a store with these labels beside stores with those
+abbrev pub score_among : List Label → List (List Label) → List (List ℕ) → ℕ
+score_among own others labels = sum_by (λ other. score_by own other labels) others

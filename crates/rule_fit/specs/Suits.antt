@@ -51,6 +51,10 @@ labels_in (Some entry) = entry.store.labels
 abbrev pub labels_of : ℕ → List StoreEntry → List Label
 labels_of store stores = labels_in (entry_at store stores)
 
+-- the labels of each of these stores
+abbrev pub labels_of_all : List ℕ → List StoreEntry → List (List Label)
+labels_of_all ids stores = map (λ id. labels_of id stores) ids
+
 -- the store of which this is known is usable and satisfies all constraints of the rule
 abbrev pub entry_suits : StoreEntry → ℕ → Rule → Bool
 entry_suits entry now rule = usable_test entry now && satisfies_all entry.store.labels rule.constraints

@@ -1,5 +1,6 @@
-ghost use Rattle.std.specs.Prelude.{◌≡◌, ◌<◌, ◌≤◌, ◌*◌, ◌^◌, length};
-ghost use Rattle.rule_fit.specs.Isolation.{differ_by, isolation_score, score_by, score_from};
+ghost use Rattle.std.specs.Prelude.{◌≡◌, ◌<◌, ◌≤◌, ◌*◌, ◌^◌, length, map};
+ghost use Rattle.rule_fit.specs.Isolation.{differ_by, isolation_score, score_among, score_by, score_from};
+ghost use Rattle.rule_fit.specs.Suits.{labels_of, labels_of_all};
 
 use crate::suiting::{labels_of, value_of};
 use pd_types::{Ids, Label, Text, Texts};
@@ -55,12 +56,27 @@ fn score_of(stores: &Stores, own: &[Label], others: &[u64], labels: &[Text]) -> 
 
 /// How far a store is from other stores by location labels, of which the first weighs most. It may
 /// be called with at most 15 others and at most 4 labels.
-#[tactic(auto, using(crate::proofs::IsolationLemmas::score_by_labels))]
+#[tactic(auto, using(crate::proofs::IsolationLemmas::score_by_labels, crate::proofs::IsolationLemmas::score_among_labels))]
 pub fn isolation_score(stores: &Stores, store: u64, others: &Ids, labels: &Texts) -> u64
     requires others { length others.now ≤ 15 }
     requires labels { length labels.now ≤ 4 }
     ensures value { result ≡ isolation_score stores.now store others.now labels.now }
+    ensures among { result ≡ score_among (labels_of store stores.now) (labels_of_all others.now stores.now) labels.now }
 {
     let own = labels_of(stores, store);
     score_of(stores, own, others.as_slice(), labels.as_slice())
+}
+
+/// How far a store with these labels is from stores with those, by location labels: the isolation
+/// score, for a caller that has the labels at hand. It may be called as `isolation_score` may.
+pub fn score_among(own: &[Label], others: &[&[Label]], labels: &[Text]) -> u64
+    requires others { length others.now ≤ 15 }
+    requires labels { length labels.now ≤ 4 }
+    ensures value { result ≡ score_among own.now (map (λ other. other.now) others.now) labels.now }
+{
+    let mut score = 0;
+    for other in others {
+        score += score_by(own, other, labels);
+    }
+    score
 }

@@ -18,7 +18,7 @@ mod tests;
 pub use answer::{Certificate, Fit, Places};
 pub use certificate::{check_certificate, total};
 pub use ids::are_apart;
-pub use isolation::isolation_score;
+pub use isolation::{isolation_score, score_among};
 pub use laws::{
     a_follower_is_a_voter_that_does_not_lead, a_peer_suits_by_its_store_and_its_role,
     a_rule_with_room_takes_one_peer_more, certificate_refutes, each_constraint_is_asked,
@@ -27,5 +27,6 @@ pub use laws::{
 pub use region::{fit, misfit_number};
 pub use room::rooms;
 pub use suiting::{
-    entry_suits, labels_of, peer_suits, satisfies_all, satisfies_rule, store_suits, suits_on,
+    entry_suits, labels_of, labels_of_all, peer_suits, satisfies_all, satisfies_rule, store_suits,
+    suits_on,
 };

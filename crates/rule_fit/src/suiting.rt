@@ -1,8 +1,11 @@
-ghost use Rattle.std.specs.Prelude.{◌≡◌, List, ℕ};
+ghost use Rattle.std.specs.Prelude.{◌≡◌, List, ℕ, map, length, IfOk};
 ghost use Rattle.std.specs.Option.{option_copied};
-ghost use Rattle.rule_fit.specs.Suits.{value_of, satisfies, satisfies_all, entry_suits, store_suits, role_suits, suits_on, peer_suits, labels_of, is_among};
+ghost use Rattle.rule_fit.specs.Suits.{value_of, satisfies, satisfies_all, entry_suits, store_suits, role_suits, suits_on, peer_suits, labels_of, labels_of_all, is_among};
 
-use pd_types::{Constraint, Constraints, Label, Op, Peer, Role, Rule, RuleRole, Text};
+use pd_types::{
+    Constraint, Constraints, Ids, Label, NoMemory, Op, Peer, Role, Rule, RuleRole, Text,
+};
+use std::alloc::Global;
 use store_table::{StoreEntry, Stores};
 
 /// The value of a label, empty where there is none.
@@ -53,6 +56,22 @@ pub fn labels_of<'a>(stores: &'a Stores, store: u64) -> &'a [Label]
         Some(rec) => rec.labels.as_slice(),
         None => &[],
     }
+}
+
+/// The labels of each of these stores, which are looked up once for all that is asked of them.
+pub fn labels_of_all<'a>(
+    alloc: Global,
+    stores: &'a Stores,
+    ids: &Ids,
+) -> Result<Vec<&'a [Label]>, NoMemory>
+    ensures value { IfOk result (λ all. map (λ labels. labels.now) all.items ≡ labels_of_all ids.now stores.now) }
+    ensures each { IfOk result (λ all. length all.items ≡ length ids.now) }
+{
+    let mut all = Vec::new(alloc);
+    for id in ids.as_slice() {
+        all.push(labels_of(stores, *id))?;
+    }
+    Ok(all)
 }
 
 /// Whether the store satisfies all constraints of the rule. A store that isn't known has no labels.

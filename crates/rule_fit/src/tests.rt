@@ -1,8 +1,8 @@
 mod agreement;
 
 use crate::{
-    Certificate, Fit, are_apart, check_certificate, fit, isolation_score, misfit_number,
-    peer_suits, rooms, satisfies_all,
+    Certificate, Fit, are_apart, check_certificate, fit, isolation_score, labels_of, labels_of_all,
+    misfit_number, peer_suits, rooms, satisfies_all, score_among,
 };
 use pd_types::{
     Bytes, Constraint, Constraints, Downs, Epoch, Ids, Label, Labels, Op, Peer, Peers, Region,
@@ -318,5 +318,9 @@ fn scores_isolation_by_the_first_different_label(rt: HostRuntime) -> Result<(), 
     assert!(rt; others.len() <= 15);
     assert!(rt; labels.len() <= 4);
     assert_eq!(rt; isolation_score(&stores, 1, &others, &labels), 100);
+    let beside = labels_of_all(alloc, &stores, &others)?;
+    assert!(rt; beside.len() <= 15);
+    let own = labels_of(&stores, 1);
+    assert_eq!(rt; score_among(own, &beside, labels.as_slice()), 100);
     Ok(())
 }
