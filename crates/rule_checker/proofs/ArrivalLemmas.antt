@@ -31,7 +31,7 @@ use Rattle.rule_checker.specs.declared.class.Ranked.{Ranked}
 use Rattle.rule_checker.specs.Arrival.{Adds, FindsRoom, arrived, takes_new}
 use Rattle.rule_checker.specs.Candidates.{new_on, may_come, passes, pool}
 use Rattle.rule_checker.specs.Measure.{HasNumber, Leaves, Lowers}
-use Rattle.rule_checker.specs.Ranks.{score_beside, score_of, stores_of}
+use Rattle.rule_checker.specs.Ranks.{score_of}
 use Rattle.rule_checker.proofs.PoolLemmas.{pool_new, some_entry}
 
 -- of a rising list the entry at a place is that of its id
@@ -320,13 +320,3 @@ weighed class beat rules stores now from entry rooms peer score ruled adds free 
       lower = omega arith;
       score = scored;
     }
-
--- a new peer's score is that of its store beside those of the region's peers
-pub new_score : (class : Class) (beat : RegionBeat) (rules : List Rule) (stores : List StoreEntry) (store : ℕ) (others : List ℕ) (peer : Peer) → Adds class → others ≡ stores_of beat.region.peers → peer ≡ new_on store → score_beside rules stores store others ≡ score_of class beat rules stores peer
-new_score Promote beat rules stores store others peer adds are same = absurd adds
-new_score Transfer beat rules stores store others peer adds are same = absurd adds
-new_score AddVoter beat rules stores store others peer adds are same =
-    ap (λ (all : List ℕ). score_beside rules stores store all) are ∙ ap (λ (p : Peer). score_of AddVoter beat rules stores p) (sym same)
-new_score AddLearner beat rules stores store others peer adds are same =
-    ap (λ (all : List ℕ). score_beside rules stores store all) are ∙ ap (λ (p : Peer). score_of AddLearner beat rules stores p) (sym same)
-new_score Remove beat rules stores store others peer adds are same = absurd adds

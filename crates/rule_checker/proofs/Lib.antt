@@ -13,3 +13,5 @@ mod DoneLemmas
 pub mod TellLemmas
 pub mod OtherStores
 pub mod LeadLemmas
+pub mod ScoreLemmas
+pub mod RoomyLemmas

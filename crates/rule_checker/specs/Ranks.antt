@@ -1,9 +1,10 @@
 -- Which of two candidates of a class goes before the other.
-use Rattle.std.specs.Prelude.{ℕ, nat_lt, Bool, ◌&&◌, ◌||◌, ◌==◌, not, List, [], map, filter, find, Option, Some, None}
+use Rattle.std.specs.Prelude.{ℕ, nat_lt, Bool, ◌==◌, not, List, [], map, filter, find, Option, Some, None}
 use Rattle.pd_types.specs.Numbers.{lesser_then}
 use Rattle.pd_types.specs.declared.region.Peer.{Peer}
 use Rattle.pd_types.specs.declared.region.RegionBeat.{RegionBeat}
 use Rattle.pd_types.specs.declared.rule.Rule.{Rule}
+use Rattle.pd_types.specs.declared.store.Label.{Label}
 use Rattle.store_table.specs.declared.entry.StoreEntry.{StoreEntry}
 use Rattle.heartbeat.specs.Counts.{region_count}
 use Rattle.rule_fit.specs.Suits.{labels_of, satisfies_all}
@@ -17,9 +18,13 @@ abbrev pub locations_in : Option Rule → List (List ℕ)
 locations_in None = []
 locations_in (Some rule) = rule.locations
 
--- the location labels for a store: those of the first rule whose constraints it satisfies, none without one
+-- the location labels for a store with these labels: those of the first rule whose constraints it satisfies, none without one
+abbrev pub locations_by : List Rule → List Label → List (List ℕ)
+locations_by rules own = locations_in (find (λ rule. satisfies_all own rule.constraints) rules)
+
+-- the location labels for a store
 abbrev pub locations_for : List Rule → List StoreEntry → ℕ → List (List ℕ)
-locations_for rules stores store = locations_in (find (λ rule. satisfies_all (labels_of store stores) rule.constraints) rules)
+locations_for rules stores store = locations_by rules (labels_of store stores)
 
 -- the stores of the region's peers
 abbrev pub stores_of : List Peer → List ℕ

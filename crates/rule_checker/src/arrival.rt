@@ -1,11 +1,12 @@
 // The best store for a new peer.
-ghost use Rattle.std.specs.Prelude.{◌≡◌, ◌≢◌, ◌↔◌, [], false, Some, IfOk, IfSome, IfNone, IsTrue, Contains, length};
+ghost use Rattle.std.specs.Prelude.{◌≡◌, ◌≢◌, ◌≤◌, [], false, Some, IfOk, IfSome, IfNone, Contains, length, map};
 ghost use Rattle.std.specs.List.{list_any};
 ghost use Rattle.store_table.specs.Entries.{entry_at};
 ghost use Rattle.op_step.specs.Peers.{has_id};
-ghost use Rattle.rule_fit.specs.Question.{AreRoomsIn, question};
+ghost use Rattle.rule_fit.specs.Question.{question};
+ghost use Rattle.rule_fit.specs.Suits.{labels_of_all, suits_on};
 ghost use Rattle.rule_checker.specs.declared.class.Ranked.{Ranked};
-ghost use Rattle.rule_checker.specs.Arrival.{Adds, FindsRoom, arrived};
+ghost use Rattle.rule_checker.specs.Arrival.{Adds, AreRoomy, arrived, with_room};
 ghost use Rattle.rule_checker.specs.Best.{IsBestOf};
 ghost use Rattle.rule_checker.specs.Candidates.{new_on, pool};
 ghost use Rattle.rule_checker.specs.Measure.{HasNumber, Lowers};
@@ -13,11 +14,11 @@ ghost use Rattle.rule_checker.specs.Ranks.{stores_of};
 
 use crate::candidate::{new_on, takes_new};
 use crate::case::Case;
-use crate::tie::{better_of, score_beside, stores_of};
+use crate::tie::{better_of, score_by_rules, stores_of};
 use crate::{Class, Ranked};
 use op_step::has_id;
-use pd_types::{Ids, NoMemory, Peer, Role};
-use rule_fit::{rooms, suits_on};
+use pd_types::{Label, NoMemory, Peer, Role, Rule};
+use rule_fit::{labels_of_all, rooms, suits_on};
 use std::alloc::Global;
 use store_table::StoreEntry;
 
@@ -32,20 +33,29 @@ fn arrived(class: Class, store: u64) -> Peer
     Peer { id: 0, store, role }
 }
 
-// Whether the peer suits a rule that has room.
-fn finds_room(on: Case, entry: &StoreEntry, peer: &Peer, rooms: &[bool]) -> bool
-    requires { length rooms.now ≡ length on.rules.now }
-    ensures { IsTrue result ↔ FindsRoom on.entry.beat.now.leader entry.now on.entry.now peer.now on.entry.rules.now rooms.now }
+// The rules that have room.
+fn roomy_rules<'a>(
+    alloc: Global,
+    rules: &'a [Rule],
+    rooms: &[bool],
+) -> Result<Vec<&'a Rule>, NoMemory>
+    requires { length rooms.now ≡ length rules.now }
+    ensures { IfOk result (λ roomy. map (λ rule. rule.now) roomy.items ≡ with_room rules.now rooms.now) }
 {
-    for (place, rule) in on.rules.as_slice().iter().enumerate() {
-        if !rooms[place] {
-            continue;
-        }
-        if suits_on(on.beat.leader, Some(entry), on.now, peer, rule) {
-            return true;
+    let mut roomy = Vec::new(alloc);
+    for (place, rule) in rules.iter().enumerate() {
+        if rooms[place] {
+            roomy.push(rule)?;
         }
     }
-    false
+    Ok(roomy)
+}
+
+// Whether the peer suits one of the rules that have room.
+fn finds_room(on: Case, entry: &StoreEntry, peer: &Peer, roomy: &[&Rule]) -> bool
+    ensures { result ≡ list_any (λ rule. suits_on on.entry.beat.now.leader (Some entry.now) on.entry.now peer.now rule.now) roomy.now }
+{
+    roomy.iter().any(|rule| suits_on(on.beat.leader, Some(entry), on.now, peer, rule))
 }
 
 // Whether a rule has room.
@@ -57,20 +67,20 @@ fn any_has_room(rooms: &[bool]) -> bool
 
 // The new peer on the store as a candidate that lowers the number, or none where it is none.
 fn weigh(
-    alloc: Global,
     on: Case,
     class: Class,
     from: u64,
     entry: &StoreEntry,
-    rooms: &[bool],
-    others: &Ids,
+    roomy: &[&Rule],
+    others: &[&[Label]],
 ) -> Option<Ranked>
     requires ruled { on.rules.now ≢ [] }
     requires adds { Adds class }
     requires number { HasNumber on.beat.now on.rules.now on.stores.now on.now from }
     requires free { has_id 0 on.beat.now ≡ false }
-    requires rooms { AreRoomsIn (question on.beat.now on.rules.now on.stores.now on.now) rooms.now }
-    requires others { others.now ≡ stores_of on.beat.now.region.peers }
+    requires roomy { AreRoomy (question on.beat.now on.rules.now on.stores.now on.now) on.rules.now (map (λ rule. rule.now) roomy.now) }
+    requires others { map (λ other. other.now) others.now ≡ labels_of_all (stores_of on.beat.now.region.peers) on.stores.now }
+    requires few { length others.now ≤ 15 }
     requires known { entry_at entry.now.store.id on.stores.now ≡ Some entry.now }
     requires held { Contains (pool class on.beat.now on.stores.now) (new_on entry.now.store.id) }
     ensures some { IfSome result (Lowers class on.entry.beat.now on.entry.rules.now on.entry.stores.now on.entry.now from) }
@@ -78,7 +88,7 @@ fn weigh(
     ensures none { IfNone result ((one : Ranked) → one.peer ≡ new_on entry.now.store.id → Lowers class on.entry.beat.now on.entry.rules.now on.entry.stores.now on.entry.now from one → ⊥) }
 {
     let store = entry.store.id;
-    if !finds_room(on, entry, &arrived(class, store), rooms) {
+    if !finds_room(on, entry, &arrived(class, store), roomy) {
         return None;
     }
     if !takes_new(on, entry) {
@@ -86,7 +96,7 @@ fn weigh(
     }
     let peer = new_on(store);
     let to = from - 1;
-    let score = score_beside(alloc, on, store, others);
+    let score = score_by_rules(on, entry.store.labels.as_slice(), others);
     Some(Ranked { peer, to, score })
 }
 
@@ -110,11 +120,16 @@ pub fn best_new(
     if !any_has_room(&rooms) {
         return Ok(None);
     }
-    let others = stores_of(alloc, on.beat.region.peers.as_slice())?;
+    let roomy = roomy_rules(alloc, on.rules.as_slice(), &rooms)?;
+    let peers = stores_of(alloc, on.beat.region.peers.as_slice())?;
+    let others = labels_of_all(alloc, on.stores, &peers)?;
     let mut best = None;
     for entry in on.stores.entries() {
-        let one = weigh(alloc, on, class, from, entry, &rooms, &others);
-        best = better_of(class, on.standing, best, one);
+        let one = weigh(on, class, from, entry, &roomy, &others);
+        // Most stores are none, and cost no comparison.
+        if one.is_some() {
+            best = better_of(class, on.standing, best, one);
+        }
     }
     Ok(best)
 }

@@ -1,29 +1,39 @@
 // Which of two candidates goes before the other.
-ghost use Rattle.std.specs.Prelude.{◌≡◌, ◌≤◌, IfOk, length, nat_lt};
+ghost use Rattle.std.specs.Prelude.{◌≡◌, ◌≤◌, IfOk, length, map, nat_lt};
 ghost use Rattle.heartbeat.specs.Counts.{region_count};
-ghost use Rattle.rule_checker.specs.Ranks.{comes_first, is_before, locations_for, other_stores, score_beside, score_of, stores_of, wins_tie};
+ghost use Rattle.rule_fit.specs.Isolation.{score_among};
+ghost use Rattle.rule_checker.specs.Ranks.{comes_first, is_before, locations_by, other_stores, score_beside, score_of, stores_of, wins_tie};
 ghost use Rattle.pd_types.specs.Numbers.{lesser_then};
 ghost use Rattle.rule_checker.specs.Best.{better_of};
 
 use crate::case::Case;
 use crate::{Class, Ranked};
 use heartbeat::Standing;
-use pd_types::{Ids, NoMemory, Peer, Texts};
-use rule_fit::{isolation_score, labels_of, satisfies_all};
+use pd_types::{Ids, Label, NoMemory, Peer};
+use rule_fit::{labels_of, labels_of_all, satisfies_all, score_among};
 use std::alloc::Global;
 
-/// The isolation score of the store by the labels of the first rule whose constraints it satisfies.
-pub fn score_beside(alloc: Global, on: Case, store: u64, others: &Ids) -> u64
+/// The isolation score of a store with these labels beside stores with those, by the location
+/// labels of the first rule whose constraints it satisfies.
+pub fn score_by_rules(on: Case, own: &[Label], others: &[&[Label]]) -> u64
     requires others { length others.now ≤ 15 }
-    ensures { result ≡ score_beside on.entry.rules.now on.entry.stores.now store others.now }
+    ensures { result ≡ score_among own.now (map (λ other. other.now) others.now) (locations_by on.entry.rules.now own.now) }
 {
-    let labels = labels_of(on.stores, store);
     for rule in on.rules.as_slice() {
-        if satisfies_all(labels, rule.constraints.as_slice()) {
-            return isolation_score(on.stores, store, others, &rule.locations);
+        if satisfies_all(own, rule.constraints.as_slice()) {
+            return score_among(own, others, rule.locations.as_slice());
         }
     }
-    isolation_score(on.stores, store, others, &Texts::new(alloc))
+    score_among(own, others, &[])
+}
+
+// The isolation score of the store beside others.
+fn score_beside(alloc: Global, on: Case, store: u64, others: &Ids) -> Result<u64, NoMemory>
+    requires others { length others.now ≤ 15 }
+    ensures { IfOk result (λ score. score ≡ score_beside on.entry.rules.now on.entry.stores.now store others.now) }
+{
+    let others = labels_of_all(alloc, on.stores, others)?;
+    Ok(score_by_rules(on, labels_of(on.stores, store), &others))
 }
 
 /// The stores of the peers.
@@ -55,14 +65,14 @@ fn score_of_new(alloc: Global, on: Case, peer: &Peer) -> Result<u64, NoMemory>
     ensures { IfOk result (λ score. score ≡ score_of Class.AddVoter on.entry.beat.now on.entry.rules.now on.entry.stores.now peer.now) }
 {
     let others = stores_of(alloc, on.beat.region.peers.as_slice())?;
-    Ok(score_beside(alloc, on, peer.store, &others))
+    score_beside(alloc, on, peer.store, &others)
 }
 
 fn score_of_old(alloc: Global, on: Case, peer: &Peer) -> Result<u64, NoMemory>
     ensures { IfOk result (λ score. score ≡ score_of Class.Remove on.entry.beat.now on.entry.rules.now on.entry.stores.now peer.now) }
 {
     let others = other_stores(alloc, peer, on.beat.region.peers.as_slice())?;
-    Ok(score_beside(alloc, on, peer.store, &others))
+    score_beside(alloc, on, peer.store, &others)
 }
 
 /// How far a candidate's store is from the others, where its class asks for it.
