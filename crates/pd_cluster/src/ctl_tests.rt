@@ -21,7 +21,7 @@ pub fn benches(alloc: Global) -> Result<Vec<Bench>, NoMemory> {
 }
 
 // Worked rows. In each line an act stands in front of `>` and its answer.
-pub const ROWS: [&str; 10] = [
+pub const ROWS: [&str; 11] = [
     // Heartbeats that are stale and that overlap.
     r#"lead 1 1000 > won term 1 lo 1000 hi 4000
 beat 1 1 1000 7 - 40 1 6 11 11:1:v > accepted removed 0 none
@@ -141,6 +141,59 @@ lead 2 1000 > won term 2 lo 4001 hi 7001
 ctl 2 1000 scheduler show > {"schedulers":["balance-leader-scheduler","balance-region-scheduler"]}
 schedule 2 1000 > scheduler balance-leader-scheduler none
 ctl 1 1000 scheduler show > {"schedulers":["balance-region-scheduler"]}"#,
+    // examples/pd_ctl.txt
+    r#"lead 1 1000 > won term 1 lo 1000 hi 4000
+hello 1 1 1000 a1 zone=z1,disk=ssd > store put
+ctl 1 1001 store > {"count":1,"stores":[{"address":"a1","id":1,"labels":[{"key":"zone","value":"z1"},{"key":"disk","value":"ssd"}],"leader_count":0,"region_count":0,"state_name":"Up"}]}
+hello 2 1 1001 a2 zone=z2 > store put
+hello 3 1 1001 a3 zone=z3 > store put
+hello 4 1 1001 a4 zone=z3 > store put
+beat 1 1 1001 7 - 40 1 1 11 11:1:v,12:2:v,13:3:v > accepted removed 0 none
+ctl 1 1001 region key 40 > {"fault":"no-region"}
+beat 1 1 1001 8 40 - 1 1 21 21:1:v > accepted removed 0 none
+ctl 1 1001 store 1 > {"address":"a1","id":1,"labels":[{"key":"zone","value":"z1"},{"key":"disk","value":"ssd"}],"leader_count":2,"region_count":2,"state_name":"Up"}
+ctl 1 1001 store 6 > {"fault":"unknown-store"}
+ctl 1 1001 region 7 > {"conf_ver":1,"end_key":"40","id":7,"leader":11,"peers":[{"id":11,"role":"Voter","store_id":1},{"id":12,"role":"Voter","store_id":2},{"id":13,"role":"Voter","store_id":3}],"start_key":"","version":1}
+ctl 1 1001 region 9 > {"fault":"no-region"}
+ctl 1 1001 region key 3FFF > {"conf_ver":1,"end_key":"40","id":7,"leader":11,"peers":[{"id":11,"role":"Voter","store_id":1},{"id":12,"role":"Voter","store_id":2},{"id":13,"role":"Voter","store_id":3}],"start_key":"","version":1}
+ctl 1 1001 scheduler show > {"schedulers":["balance-leader-scheduler","balance-region-scheduler"]}
+ctl 1 1001 member leader show > {"driver":1,"term":1}
+ctl 1 1001 tso 395181938313123110 > {"logical":120102,"physical":1507499459507}
+ctl 1 1001 operator add foo 7 4 > {"fault":"unknown"}
+ctl 1 1001 store limit x y > {"fault":"missing-word"}
+ctl 1 1001 store limit 1 2000000 foo x > {"fault":"extra-word"}
+ctl 1 1001 store limit 1 1000001 add-peer > {"fault":"bad-number"}
+ctl 1 1001 operator add remove-peer 7 4 > {"fault":"no-peer"}
+ctl 1 1001 operator add add-peer 7 3 > {"fault":"has-peer"}
+ctl 1 1001 operator add remove-peer 8 1 > {"fault":"no-target"}
+ctl 1 1001 operator check 7 > {"fault":"absent"}
+ctl 1 1001 operator add add-peer 7 4 > {"added":2,"now":"send add-learner peer 1000001 store 4"}
+ctl 1 1001 operator show > {"operators":[{"kind":"admin","region":7,"state":"Started","step":0,"steps":["add-learner peer 1000001 store 4","promote-learner peer 1000001 store 4"]}]}
+ctl 1 1001 operator check 7 > {"region":7,"state":"Started"}
+ctl 1 1001 operator add transfer-leader 7 2 > {"fault":"busy 3"}
+ctl 1 1002 operator remove 7 > {"done":"Canceled"}
+ctl 1 1002 operator remove 7 > {"fault":"absent"}
+ctl 1 1002 operator check 7 > {"region":7,"state":"Canceled"}
+ctl 1 1002 operator add transfer-leader 7 2 > {"added":1,"now":"send transfer-leader peer 12 store 2"}
+beat 2 1 1003 7 - 40 1 1 12 11:1:v,12:2:v,13:3:v > accepted removed 0 done
+ctl 1 1003 operator check 7 > {"region":7,"state":"Success"}
+ctl 1 1003 operator add transfer-peer 7 2 4 > {"added":4,"now":"send add-learner peer 1000002 store 4"}
+ctl 1 1003 operator remove 7 > {"done":"Canceled"}
+ctl 1 1003 store limit 3 0 remove-peer > {"done":"Limit"}
+ctl 1 1003 operator add remove-peer 7 3 > {"fault":"limited available 0 needed 60000"}
+ctl 1 1003 store limit 3 1000000 remove-peer > {"done":"Limit"}
+ctl 1 1004 operator add remove-peer 7 3 > {"added":1,"now":"send remove-peer peer 13 store 3"}
+beat 2 1 1005 7 - 40 2 1 12 11:1:v,12:2:v > accepted removed 0 done
+ctl 1 1005 store limit 4 5 add-peer > {"done":"Limit"}
+ctl 1 1005 store limit 6 5 add-peer > {"fault":"unknown-store"}
+ctl 1 1006 store delete 3 > {"done":"Offline"}
+ctl 1 1006 store delete 6 > {"fault":"unknown-store"}
+ctl 1 1006 store 3 > {"address":"a3","id":3,"labels":[{"key":"zone","value":"z3"}],"leader_count":0,"region_count":0,"state_name":"Offline"}
+ctl 1 1006 scheduler remove balance-region-scheduler > {"done":"Removed"}
+ctl 1 1006 scheduler remove balance-region-scheduler > {"fault":"absent"}
+ctl 1 1006 scheduler show > {"schedulers":["balance-leader-scheduler"]}
+ctl 1 1007 member leader resign > {"done":"Resigned"}
+ctl 1 1007 store > not-leading"#,
 ];
 
 #[test]
