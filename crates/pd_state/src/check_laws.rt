@@ -20,6 +20,11 @@ ghost use Rattle.pd_state.specs.declared.entry.Entry.{Entry};
 ghost use Rattle.pd_state.specs.declared.part.Part.{Part};
 ghost use Rattle.pd_state.specs.declared.patrol.Planned.{Planned};
 
+use crate::{ADMIN_PRIORITY, CHECK_PRIORITY, SCHEDULER_PRIORITY};
+
+// A scheduler's operator gives way to a check's, and both to one that is added by hand.
+const _: () = prove!(SCHEDULER_PRIORITY == 1 && CHECK_PRIORITY == 2 && ADMIN_PRIORITY == 3);
+
 /// Each step that an entry of a legal journal sends is safe there, whoever asked for its operator: a
 /// majority of its region's voters is live before it and after it, and its target is right, by the
 /// heartbeat that the region stands with after the entry, the stores as they stand before it, and the

@@ -4,8 +4,7 @@ use std::test::Fail;
 
 // A Down peer is replaced: the misfit numbers are 2, 1 and 0. The worked row of repair. The messages go to
 // the leader's store, with the place of the entry that sent each.
-const REPAIR: &str = "\
-term 1 1000 => term 1 stores 0 rules 1
+const REPAIR: &str = r#"term 1 1000 => term 1 stores 0 rules 1
 hello 1 1000 a1 zone=z1 => store put
 hello 2 1000 a2 zone=z2 => store put
 hello 3 1000 a3 zone=z3 => store put
@@ -15,13 +14,14 @@ alive 1 1801001 => alive
 alive 2 1801001 => alive
 alive 4 1801001 => alive
 check 1801001 7 => plan add-voter from 2 to 1 send add-learner peer 1000001 store 4
+ctl 1801001 operator show => {"operators":[{"kind":"check","region":7,"state":"Started","step":0,"steps":["add-learner peer 1000001 store 4","promote-learner peer 1000001 store 4"]}]}
 beat 1801002 7 - - 2 1 11 11:1:v,12:2:v,13:3:v,1000001:4:l => accepted removed 0 send promote-learner peer 1000001 store 4
 beat 1801003 7 - - 3 1 11 11:1:v,12:2:v,13:3:v,1000001:4:v => accepted removed 0 done
 check 1801003 7 => plan remove from 1 to 0 send remove-peer peer 13 store 3
 beat 1801004 7 - - 4 1 11 11:1:v,12:2:v,1000001:4:v => accepted removed 0 done
 check 1801004 7 => no-fault
-sends => (1 to 1 term 1 entry 10 region 7 add-learner peer 1000001 store 4)(1 to 1 term 1 entry 11 region 7 promote-learner peer 1000001 store 4)(1 to 1 term 1 entry 13 region 7 remove-peer peer 13 store 3)
-";
+sends => (1 to 1 term 1 entry 10 region 7 add-learner peer 1000001 store 4)(1 to 1 term 1 entry 12 region 7 promote-learner peer 1000001 store 4)(1 to 1 term 1 entry 14 region 7 remove-peer peer 13 store 3)
+"#;
 
 // Two voters are missing and a learner is on a Down store: three misfits, of which each plan takes one,
 // carried out by the heartbeats that answer its steps.
@@ -108,11 +108,41 @@ patrol 1000 => patrol regions 3 ok 1 split 0 plan 2 no-plan 0 added 1 buried 0
 beat 1000 3 40 - 1 1 31 31:1:v,32:2:v,1000002:9:l => accepted removed 0 send add-learner peer 1000003 store 3
 ";
 
+// Four regions of which each is checked: the first fits, the second lacks a voter, the third has a
+// border inside, and the fourth asks for a voter that no store is left for.
+const CHECKED: &str = r#"term 1 1000 => term 1 stores 0 rules 1
+hello 1 1000 s1 => store put
+hello 2 1000 s2 => store put
+hello 3 1000 s3 => store put
+rule 1000 {"group_id":"pd","id":"x","role":"voter","count":1,"start_key":"60"} => rule set
+beat 1000 1 - 20 1 1 11 11:1:v,12:2:v,13:3:v => accepted removed 0 none
+beat 1000 2 20 40 1 1 21 21:1:v,22:2:v => accepted removed 0 none
+beat 1000 3 40 80 1 1 31 31:1:v,32:2:v,33:3:v => accepted removed 0 none
+beat 1000 4 80 - 1 1 41 41:1:v,42:2:v,43:3:v => accepted removed 0 none
+check 1000 1 => no-fault
+check 1000 2 => plan add-voter from 1 to 0 send add-learner peer 1000001 store 3
+check 1000 3 => needs-split 60
+check 1000 4 => no-plan from 1
+"#;
+
+// A patrol of the same regions counts what the checks said, and plans the same step.
+const PATROLLED: &str = r#"term 1 1000 => term 1 stores 0 rules 1
+hello 1 1000 s1 => store put
+hello 2 1000 s2 => store put
+hello 3 1000 s3 => store put
+rule 1000 {"group_id":"pd","id":"x","role":"voter","count":1,"start_key":"60"} => rule set
+beat 1000 1 - 20 1 1 11 11:1:v,12:2:v,13:3:v => accepted removed 0 none
+beat 1000 2 20 40 1 1 21 21:1:v,22:2:v => accepted removed 0 none
+beat 1000 3 40 80 1 1 31 31:1:v,32:2:v,33:3:v => accepted removed 0 none
+beat 1000 4 80 - 1 1 41 41:1:v,42:2:v,43:3:v => accepted removed 0 none
+patrol 1000 => patrol regions 4 ok 1 split 1 plan 1 no-plan 1 added 1 buried 0
+beat 1000 2 20 40 1 1 21 21:1:v,22:2:v => accepted removed 0 send add-learner peer 1000001 store 3
+"#;
+
 // What an operator's clock and its region's end come to: Created ones expire after 3 seconds, an
 // epoch that moved cancels, and the operators of a displaced region are gone. Heartbeats go by the
 // clock, so that a moment of the past is late too.
-const LIVES: &str = "\
-term 1 1000 => term 1 stores 0 rules 1
+const LIVES: &str = r#"term 1 1000 => term 1 stores 0 rules 1
 hello 1 1000 s1 => store put
 hello 2 1000 s2 => store put
 hello 3 1000 s3 => store put
@@ -121,6 +151,7 @@ check 1000 7 => plan add-voter from 1 to 0 send add-learner peer 1000001 store 3
 alive 1 601001 => alive
 alive 2 601001 => alive
 beat 1000 7 - - 1 1 11 11:1:v,12:2:v => accepted removed 0 ended Timeout
+ctl 601001 operator check 7 => {"region":7,"state":"Timeout"}
 beat 1000 7 - - 1 1 11 11:1:v,12:2:v => accepted removed 0 none
 alive 3 601001 => alive
 check 601001 7 => plan add-voter from 1 to 0 send add-learner peer 1000002 store 3
@@ -128,11 +159,10 @@ beat 601001 7 - - 3 1 11 11:1:v,12:2:v => accepted removed 0 ended Canceled
 check 601001 7 => plan add-voter from 1 to 0 send add-learner peer 1000003 store 3
 beat 601001 8 - - 1 2 81 81:1:v,82:2:v => accepted removed 1 none
 beat 601001 7 - - 3 3 11 11:1:v,12:2:v => accepted removed 1 none
-";
+"#;
 
 // A learner without a majority of live voters is held, and its operator expires.
-const HELD: &str = "\
-term 1 1000 => term 1 stores 0 rules 1
+const HELD: &str = r#"term 1 1000 => term 1 stores 0 rules 1
 hello 1 1000 s1 => store put
 hello 2 1000 s2 => store put
 hello 3 1000 s3 => store put
@@ -142,7 +172,8 @@ alive 1 21001 => alive
 check 21001 7 => plan promote from 2 to 0 held before live 1 of 2
 beat 24001 7 - - 1 1 11 11:1:v,12:2:v,13:3:l => accepted removed 0 held before live 1 of 2
 beat 24002 7 - - 1 1 11 11:1:v,12:2:v,13:3:l => accepted removed 0 ended Expired
-";
+ctl 24002 operator check 7 => {"region":7,"state":"Expired"}
+"#;
 
 // An outdated driver's plans have no ids: the check's own, and the first of the patrol, which stops there
 // and looks no further for one.
@@ -189,6 +220,8 @@ fn checks_and_patrols_are_answered(rt: HostRuntime) -> Result<(), Fail> {
         SPLIT,
         EIGHT_REGIONS,
         PATROL,
+        CHECKED,
+        PATROLLED,
         LIVES,
         HELD,
         WITHOUT_IDS,

@@ -108,7 +108,7 @@ impl Scheduler for Patient {
     }
 }
 
-// A bench of one scheduler of this name, which proposes these.
+// A bench of a scheduler of each name, which proposes these.
 fn bench_of(alloc: Global, rows: &[(&str, &[Proposal])]) -> Result<Bench, Fail> {
     let mut list: Vec<Box<dyn Scheduler + Send>> = Vec::new(alloc);
     for (name, proposals) in rows {
@@ -246,10 +246,86 @@ ctl 1002 store => {"count":1,"stores":[{"address":"a1","id":1,"labels":[],"leade
 alive 9 1002 => unknown-store
 "#;
 
+// What a wish by hand meets: no peer to take away, no target, a peer that is there, and a limit.
+const WISHES: &str = r#"term 1 1000 => term 1 stores 0 rules 1
+hello 1 1000 a1 => store put
+hello 2 1000 a2 => store put
+hello 3 1000 a3 => store put
+beat 1000 7 - 40 1 1 11 11:1:v => accepted removed 0 none
+beat 1000 8 40 - 1 1 81 81:1:v,82:2:v => accepted removed 0 none
+ctl 1000 operator add remove-peer 7 2 => {"fault":"no-peer"}
+ctl 1000 operator add transfer-leader 7 2 => {"fault":"no-peer"}
+ctl 1000 operator add transfer-peer 7 2 3 => {"fault":"no-peer"}
+ctl 1000 operator add remove-peer 7 1 => {"fault":"no-target"}
+ctl 1000 operator add transfer-peer 8 1 2 => {"fault":"has-peer"}
+ctl 1000 operator add add-peer 7 2 => {"added":2,"now":"send add-learner peer 1000001 store 2"}
+ctl 1000 store limit 3 0 add-peer => {"done":"Limit"}
+ctl 1000 operator add add-peer 8 3 => {"fault":"limited available 0 needed 60000"}
+"#;
+
+// Another driver wrote the record of the store and that of the ids, and then its term is later.
+const OVERWRITTEN: &str = r#"term 1 1000 => term 1 stores 0 rules 1
+hello 1 1000 a1 => store put
+hello 2 1000 a2 => store put
+beat 1000 7 - - 1 1 11 11:1:v => accepted removed 0 none
+keep store/00000000000000000002 up b2 - => kept
+ctl 1000 store delete 2 => {"fault":"conflict 3"}
+keep id 1001000 => kept
+ctl 1000 operator add add-peer 7 2 => {"fault":"conflict 4"}
+outdate => outdated
+ctl 1000 operator add add-peer 7 2 => {"fault":"old-term 5"}
+"#;
+
+// The metadata takes no more calls.
+const FULL: &str = r#"term 1 1000 => term 1 stores 0 rules 1
+hello 1 1000 a1 => store put
+hello 2 1000 a2 => store put
+beat 1000 7 - - 1 1 11 11:1:v => accepted removed 0 none
+exhaust => exhausted
+ctl 1000 store delete 2 => {"fault":"meta-limit"}
+ctl 1000 operator add add-peer 7 2 => {"fault":"meta-limit"}
+"#;
+
+// No window of ids is left behind this one.
+const SPENT: &str = r#"keep id 9223372036854775000 => kept
+term 2 1000 => term 2 stores 0 rules 1
+hello 1 1000 a1 => store put
+hello 2 1000 a2 => store put
+beat 1000 7 - - 1 1 11 11:1:v => accepted removed 0 none
+ctl 1000 operator add add-peer 7 2 => {"fault":"ids-spent"}
+"#;
+
+// A majority is live, and wouldn't be once the peer is gone; nor is the target.
+const LOSING: &str = r#"term 1 1000 => term 1 stores 0 rules 1
+hello 1 1000 a1 => store put
+hello 2 1000 a2 => store put
+hello 3 1000 a3 => store put
+beat 1000 7 - 40 1 1 11 11:1:v,12:2:v,13:3:v => accepted removed 0 none
+beat 1000 8 40 - 1 1 81 81:1:v,82:2:v,83:3:v => accepted removed 0 none
+alive 1 21001 => alive
+alive 2 21001 => alive
+ctl 21001 operator add remove-peer 7 2 => {"added":1,"now":"held after live 1 of 2"}
+ctl 21001 operator add transfer-leader 8 3 => {"added":1,"now":"held target live 2 of 3"}
+"#;
+
 #[test]
 fn commands_of_pd_ctl_are_carried_out(rt: HostRuntime) -> Result<(), Fail> {
     let alloc = rt.alloc();
-    for lines in [REGIONS, HELD, SENT, MOVED, COMMANDS, BURIED, TWO_DRIVERS] {
+    let scripts = [
+        REGIONS,
+        HELD,
+        SENT,
+        MOVED,
+        COMMANDS,
+        BURIED,
+        TWO_DRIVERS,
+        WISHES,
+        OVERWRITTEN,
+        FULL,
+        SPENT,
+        LOSING,
+    ];
+    for lines in scripts {
         Scene::new(alloc).play(&rt, alloc, lines)?;
     }
     Ok(())
@@ -338,4 +414,27 @@ fn a_scheduler_is_told_what_became_of_its_proposal(rt: HostRuntime) -> Result<()
     let mut list: Vec<Box<dyn Scheduler + Send>> = Vec::new(alloc);
     list.push(Box::new(alloc, patient)?)?;
     Scene::of(alloc, Bench::of(alloc, list)).play(&rt, alloc, TOLD)
+}
+
+// What a scheduler proposes would lose the majority, so its step is held.
+const STUBBORN: &str = r#"term 1 1000 => term 1 stores 0 rules 1
+hello 1 1000 a1 => store put
+hello 2 1000 a2 => store put
+hello 3 1000 a3 => store put
+beat 1000 7 - - 1 1 11 11:1:v,12:2:v,13:3:v => accepted removed 0 none
+alive 1 21001 => alive
+alive 2 21001 => alive
+schedule 21001 => scheduler stubborn drop-peer region 7 store 2 held after live 1 of 2
+beat 21001 7 - - 1 1 11 11:1:v,12:2:v,13:3:v => accepted removed 0 held after live 1 of 2
+"#;
+
+#[test]
+fn a_proposal_that_would_lose_the_majority_is_held(rt: HostRuntime) -> Result<(), Fail> {
+    let alloc = rt.alloc();
+    let proposals = [Proposal::DropPeer {
+        region: 7,
+        store: 2,
+    }];
+    let bench = bench_of(alloc, &[("stubborn", &proposals)])?;
+    Scene::of(alloc, bench).play(&rt, alloc, STUBBORN)
 }

@@ -1,7 +1,7 @@
 // Clusters in scripts: a line is a request or a word about the scene, and behind ` => ` stands what it
 // is answered.
 use crate::{Cluster, Reply};
-use meta_store::{Meta, MetaCall, MetaEntry};
+use meta_store::{MOST_ENTRIES, Meta, MetaCall, MetaEntry, MetaFault};
 use pd_types::{
     Actor, Bytes, Downs, Epoch, Ids, Label, Labels, NoMemory, Peer, Peers, Region, RegionBeat,
     Request, Role, StepMsg, Text,
@@ -236,6 +236,7 @@ impl Scene {
         match word {
             "keep" => self.keep(alloc, rest),
             "outdate" => self.outdate(alloc),
+            "exhaust" => self.exhaust(alloc),
             "other" => self.turn(alloc),
             "clock" => self.clock(alloc),
             "rules" => self.rules(alloc),
@@ -261,7 +262,13 @@ impl Scene {
     // Puts a record behind the cluster's back, as driver 2: `KEY BYTES`.
     fn keep(&mut self, alloc: Global, rest: &str) -> Result<String, Fail> {
         let (key, bytes) = rest.split_once(' ').unwrap_or((rest, ""));
-        let is_put = self.meta.put_if(2, 1, key.as_bytes(), 0, bytes.as_bytes());
+        let revision = match self.meta.get(key.as_bytes())? {
+            Some(cell) => cell.revision,
+            None => 0,
+        };
+        let is_put = self
+            .meta
+            .put_if(2, 1, key.as_bytes(), revision, bytes.as_bytes());
         Ok(String::from_str(alloc, if is_put.is_ok() { "kept" } else { "refused" })?)
     }
 
@@ -269,6 +276,16 @@ impl Scene {
     fn outdate(&mut self, alloc: Global) -> Result<String, Fail> {
         let is_led = self.meta.lead(2, 5).is_ok();
         Ok(String::from_str(alloc, if is_led { "outdated" } else { "refused" })?)
+    }
+
+    // Driver 2 announces the first term again, until the metadata takes no more calls.
+    fn exhaust(&mut self, alloc: Global) -> Result<String, Fail> {
+        for _ in 0..MOST_ENTRIES {
+            if let Err(MetaFault::Limit) = self.meta.lead(2, 1) {
+                return Ok(String::from_str(alloc, "exhausted")?);
+            }
+        }
+        Ok(String::from_str(alloc, "goes on")?)
     }
 
     // From here on the other driver's cluster is asked.

@@ -19,6 +19,10 @@ alive 1 1001
 beat 1002 7 - - 1 1 11
 rule 1000 {"group_id":"pd","id":"x","role":"voter","count":1}
 unrule 1000 x
+check 1003 7
+patrol 1004
+schedule 1005
+ctl 1006 store
 retire"#;
 
 // Serves a request: it has its entry, or there is no memory for it, which leaves the journal, takes
@@ -57,7 +61,7 @@ fn a_request_without_memory_leaves_the_journal(rt: HostRuntime) -> Result<(), Fa
             break;
         }
     }
-    let is_whole = scene.cluster.journal().len() == 7;
+    let is_whole = scene.cluster.journal().len() == 11;
     scene.cluster = Cluster::new(alloc, 2);
     let reply = scene.ask(Actor::Driver(2), asked(alloc, "term 2 2000")?)?;
     let Reply::Term {
@@ -201,7 +205,17 @@ unrule 1000 7 => rule removed
 rule 1000 {"group_id":"qd","id":"7","role":"voter","count":2} => rule set
 "#;
 
-// Plays the line for each of these numbers, which stands in the place of its `%`.
+// The line with a number in the place of each `%`.
+fn numbered(alloc: Global, line: &str, number: u64) -> Result<String, Fail> {
+    let mut parts = line.split('%');
+    let mut text = String::from_str(alloc, parts.next().unwrap_or(""))?;
+    for part in parts {
+        write!(text, "{number}{part}")?;
+    }
+    Ok(text)
+}
+
+// Plays the line for each of these numbers.
 fn fill(
     rt: &impl Abort,
     alloc: Global,
@@ -209,9 +223,8 @@ fn fill(
     numbers: Range<u64>,
     line: &str,
 ) -> Result<(), Fail> {
-    let (front, back) = line.split_once('%').unwrap_or((line, ""));
     for number in numbers {
-        let line = format!(in alloc; "{front}{number}{back}")?;
+        let line = numbered(alloc, line, number)?;
         scene.play(rt, alloc, line.as_str())?;
     }
     Ok(())
@@ -250,6 +263,22 @@ fn stores_and_rules_have_limits(rt: HostRuntime) -> Result<(), Fail> {
         scene.play(&rt, alloc, behind)?;
     }
     Ok(())
+}
+
+// So many regions may have an operator.
+#[test]
+fn operators_have_a_limit(rt: HostRuntime) -> Result<(), Fail> {
+    let alloc = rt.alloc();
+    let mut scene = Scene::new(alloc);
+    scene.play(&rt, alloc, "term 1 1000 => term 1 stores 0 rules 1")?;
+    fill(&rt, alloc, &mut scene, 1..3, "hello % 1000 => store put")?;
+    let beat = "beat 1000 % % %ff 1 1 11 11:1:v,12:2:v => accepted removed 0 none";
+    fill(&rt, alloc, &mut scene, 1000..2025, beat)?;
+    let added =
+        r#"ctl 1000 operator add transfer-leader % 2 => {"added":1,"now":"send transfer-leader peer 12 store 2"}"#;
+    fill(&rt, alloc, &mut scene, 1000..2024, added)?;
+    let refused = r#"ctl 1000 operator add transfer-leader 2024 2 => {"fault":"limit"}"#;
+    scene.play(&rt, alloc, refused)
 }
 
 // What a driver whose rule `x` is set is answered once it is outdated: a refused write leaves the rules.
