@@ -4,7 +4,7 @@ use pd_types::{
     Bytes, Constraint, Constraints, Downs, Epoch, Ids, Label, Labels, MAX_PEERS, Op, Peer, Peers,
     Region, RegionBeat, Role, Rule, RuleRole, StoreRec, StoreState, Text, Texts,
 };
-use rule_fit::are_apart;
+use rule_fit::{Certificate, are_apart};
 use rule_set::{MOST_LOCATIONS, RuleSet};
 use std::alloc::Global;
 use std::test::Fail;
@@ -130,7 +130,20 @@ fn four(alloc: Global) -> Result<Stores, Fail> {
     Ok(stores)
 }
 
-// The verdict in words: class, steps and numbers.
+// What shows that a region doesn't fit.
+fn put_certificate(said: &mut String, certificate: &Certificate) -> Result<(), Fail> {
+    match certificate {
+        Certificate::Totals { counts, peers } => write!(said, " by {counts} and {peers}")?,
+        Certificate::Peers(ids) => {
+            for id in ids.as_slice() {
+                write!(said, " by peer {id}")?;
+            }
+        }
+    }
+    Ok(())
+}
+
+// The verdict in words: class, steps and numbers, and what shows that there is no fit.
 fn said(alloc: Global, verdict: &Verdict) -> Result<String, Fail> {
     let mut said = String::new(alloc);
     match verdict {
@@ -152,9 +165,9 @@ fn said(alloc: Global, verdict: &Verdict) -> Result<String, Fail> {
                 said.push_str(words.as_str())?;
             }
         }
-        Verdict::NoPlan { from, .. } => {
-            let words = format!(in alloc; "stuck {from}")?;
-            said.push_str(words.as_str())?;
+        Verdict::NoPlan { from, certificate } => {
+            write!(said, "stuck {from}")?;
+            put_certificate(&mut said, certificate)?;
         }
     }
     Ok(said)
@@ -259,7 +272,7 @@ fn equal_totals_may_not_fit(rt: HostRuntime) -> Result<(), Fail> {
     let rules = two(alloc, "z1", "z1")?;
     let beat = region(alloc, &[(1, V), (2, V)])?;
     let text = says(alloc, &beat, &rules, &stores, 1000)?;
-    assert_eq!(rt; text.as_str(), "stuck 2");
+    assert_eq!(rt; text.as_str(), "stuck 2 by peer 12");
     Ok(())
 }
 
@@ -281,7 +294,7 @@ fn a_new_peer_comes_where_another_can_move(rt: HostRuntime) -> Result<(), Fail> 
             "z1",
             "AddVoter 1 0, add-learner peer 0 store 2, promote-learner peer 0 store 2",
         ),
-        ("z1", "z1", "stuck 1"),
+        ("z1", "z1", "stuck 1 by 2 and 1"),
     ];
     for (one, other, says_so) in rows {
         let rules = two(alloc, one, other)?;
@@ -329,28 +342,6 @@ fn zones(alloc: Global, zones: &[&str]) -> Result<Stores, Fail> {
     Ok(stores)
 }
 
-// So many voters, apart by their zones.
-fn apart(alloc: Global, count: u32) -> Result<RuleSet, Fail> {
-    let mut one = rule(alloc, "default", count, "", "")?;
-    one.locations.push(text(alloc, "zone")?)?;
-    let mut rules = RuleSet::new(alloc)?;
-    put_rule(&mut rules, one)?;
-    Ok(rules)
-}
-
-#[test]
-fn the_least_learner_is_promoted(rt: HostRuntime) -> Result<(), Fail> {
-    let alloc = rt.alloc();
-    let stores = zones(alloc, &["", "", "", ""])?;
-    let beat = region(alloc, &[(1, V), (2, V), (3, L), (4, L)])?;
-    let text = says(alloc, &beat, &RuleSet::new(alloc)?, &stores, 1000)?;
-    assert_eq!(rt;
-        text.as_str(),
-        "Promote 3 1, promote-learner peer 13 store 3"
-    );
-    Ok(())
-}
-
 #[test]
 fn a_pending_learner_is_no_candidate(rt: HostRuntime) -> Result<(), Fail> {
     let alloc = rt.alloc();
@@ -358,82 +349,185 @@ fn a_pending_learner_is_no_candidate(rt: HostRuntime) -> Result<(), Fail> {
     let mut beat = region(alloc, &[(1, V), (2, V), (3, L)])?;
     beat.pending.push(13)?;
     let text = says(alloc, &beat, &RuleSet::new(alloc)?, &stores, 1000)?;
-    assert_eq!(rt; text.as_str(), "stuck 2");
+    assert_eq!(rt; text.as_str(), "stuck 2 by peer 13");
     Ok(())
 }
 
-#[test]
-fn the_least_voter_takes_the_lead(rt: HostRuntime) -> Result<(), Fail> {
-    let alloc = rt.alloc();
-    let stores = zones(alloc, &["z1", "z2", "z2"])?;
+// The region of these peers: `1v 2l` are a voter on store 1 and a learner on store 2.
+fn peers_of(alloc: Global, words: &str) -> Result<RegionBeat, Fail> {
+    let mut list: Vec<(u64, Role)> = Vec::new(alloc);
+    for word in words.split(' ') {
+        let role = if word.ends_with('l') { L } else { V };
+        let store = word.get(0..1).unwrap_or("").parse().unwrap_or(0);
+        list.push((store, role))?;
+    }
+    region(alloc, &list)
+}
+
+// The rule of `ROLE COUNT [ZONE]`, which keeps peers apart by their zones.
+fn rule_of(alloc: Global, id: &str, words: &str) -> Result<Rule, Fail> {
+    let mut words = words.split(' ');
+    let role = match words.next() {
+        Some("leader") => RuleRole::Leader,
+        Some("follower") => RuleRole::Follower,
+        Some("learner") => RuleRole::Learner,
+        _ => RuleRole::Voter,
+    };
+    let count = words.next().unwrap_or("").parse().unwrap_or(0);
+    let mut one = ruled(alloc, id, role, count, words.next().unwrap_or(""), "")?;
+    one.locations.push(text(alloc, "zone")?)?;
+    Ok(one)
+}
+
+// One rule, or two.
+fn rules_of(alloc: Global, first: &str, last: &str) -> Result<RuleSet, Fail> {
     let mut rules = RuleSet::new(alloc)?;
-    put_rule(
-        &mut rules,
-        ruled(alloc, "A", RuleRole::Leader, 1, "z2", "")?,
-    )?;
-    put_rule(
-        &mut rules,
-        ruled(alloc, "default", RuleRole::Follower, 2, "", "")?,
-    )?;
-    let beat = region(alloc, &[(1, V), (2, V), (3, V)])?;
-    let text = says(alloc, &beat, &rules, &stores, 1000)?;
-    assert_eq!(rt;
-        text.as_str(),
-        "Transfer 2 0, transfer-leader peer 12 store 2"
-    );
-    Ok(())
+    if !first.is_empty() {
+        put_rule(&mut rules, rule_of(alloc, "A", first)?)?;
+    }
+    put_rule(&mut rules, rule_of(alloc, "default", last)?)?;
+    Ok(rules)
 }
 
-// The third store is in the zone of the first, the fourth in one of its own.
-#[test]
-fn a_new_peer_comes_far_from_the_others(rt: HostRuntime) -> Result<(), Fail> {
-    let alloc = rt.alloc();
-    let stores = zones(alloc, &["z1", "z2", "z1", "z3"])?;
-    let beat = region(alloc, &[(1, V), (2, V)])?;
-    let text = says(alloc, &beat, &apart(alloc, 3)?, &stores, 1000)?;
-    assert_eq!(rt;
-        text.as_str(),
-        "AddVoter 1 0, add-learner peer 0 store 4, promote-learner peer 0 store 4"
-    );
-    Ok(())
-}
+// Each class with each of its ties: the zones of the stores 1, 2, .., the region's peers, the rules, the
+// peers of a heartbeat that stands, and what is said.
+const TIES: [(&str, &str, &str, &str, &str, &str); 14] = [
+    // The least peer, of those that lower the number.
+    (
+        "- - - -",
+        "1v 2v 3l 4l",
+        "",
+        "voter 3",
+        "",
+        "Promote 3 1, promote-learner peer 13 store 3",
+    ),
+    (
+        "- - z3 z4",
+        "1v 2v 3l 4l",
+        "voter 1 z4",
+        "voter 2",
+        "",
+        "Promote 3 1, promote-learner peer 14 store 4",
+    ),
+    // The least number, and then the least peer.
+    (
+        "z1 z2 z3",
+        "1v 2v 3v",
+        "leader 1 z3",
+        "follower 1 z1",
+        "",
+        "Transfer 5 1, transfer-leader peer 13 store 3",
+    ),
+    (
+        "z1 z2 z2",
+        "1v 2v 3v",
+        "leader 1 z2",
+        "follower 2",
+        "",
+        "Transfer 2 0, transfer-leader peer 12 store 2",
+    ),
+    // The greatest score, then the fewest regions, and then the least store.
+    (
+        "z1 z2 z1 z3",
+        "1v 2v",
+        "",
+        "voter 3",
+        "",
+        "AddVoter 1 0, add-learner peer 0 store 4, promote-learner peer 0 store 4",
+    ),
+    (
+        "z1 z2 z1 z3",
+        "1v 2v",
+        "",
+        "voter 3",
+        "4v",
+        "AddVoter 1 0, add-learner peer 0 store 4, promote-learner peer 0 store 4",
+    ),
+    (
+        "- - - -",
+        "1v 2v",
+        "",
+        "voter 3",
+        "3v",
+        "AddVoter 1 0, add-learner peer 0 store 4, promote-learner peer 0 store 4",
+    ),
+    (
+        "- - - -",
+        "1v 2v",
+        "",
+        "voter 3",
+        "",
+        "AddVoter 1 0, add-learner peer 0 store 3, promote-learner peer 0 store 3",
+    ),
+    (
+        "z1 z2 z1 z3",
+        "1v 2v",
+        "learner 1",
+        "voter 2",
+        "",
+        "AddLearner 1 0, add-learner peer 0 store 4",
+    ),
+    (
+        "- - - -",
+        "1v 2v",
+        "learner 1",
+        "voter 2",
+        "3v",
+        "AddLearner 1 0, add-learner peer 0 store 4",
+    ),
+    (
+        "- - - -",
+        "1v 2v",
+        "learner 1",
+        "voter 2",
+        "",
+        "AddLearner 1 0, add-learner peer 0 store 3",
+    ),
+    // The least score, and then the least peer, of those that lower the number.
+    (
+        "z1 z2 z2",
+        "1v 2v 3v",
+        "",
+        "voter 2",
+        "",
+        "Remove 1 0, remove-peer peer 12 store 2",
+    ),
+    (
+        "- - -",
+        "1v 2v 3v",
+        "",
+        "voter 2",
+        "",
+        "Remove 1 0, transfer-leader peer 12 store 2, remove-peer peer 11 store 1",
+    ),
+    (
+        "z1 z2 z3",
+        "1v 2v 3v",
+        "voter 1 z1",
+        "voter 1 z3",
+        "",
+        "Remove 1 0, remove-peer peer 12 store 2",
+    ),
+];
 
 #[test]
-fn a_new_peer_comes_where_fewer_regions_are(rt: HostRuntime) -> Result<(), Fail> {
+fn each_tie_of_each_class_is_decided(rt: HostRuntime) -> Result<(), Fail> {
     let alloc = rt.alloc();
-    let stores = zones(alloc, &["", "", "", ""])?;
-    let mut standing = Standing::new(alloc);
-    standing.intake(region(alloc, &[(3, V)])?)?;
-    let beat = region(alloc, &[(1, V), (2, V)])?;
-    let rules = RuleSet::new(alloc)?;
-    let text = says_beside(alloc, &beat, &rules, &stores, &standing, 1000)?;
-    assert_eq!(rt;
-        text.as_str(),
-        "AddVoter 1 0, add-learner peer 0 store 4, promote-learner peer 0 store 4"
-    );
-    Ok(())
-}
-
-#[test]
-fn a_learner_comes_to_the_least_store(rt: HostRuntime) -> Result<(), Fail> {
-    let alloc = rt.alloc();
-    let stores = zones(alloc, &["", "", "", ""])?;
-    let mut rules = RuleSet::new(alloc)?;
-    put_rule(&mut rules, ruled(alloc, "A", RuleRole::Learner, 1, "", "")?)?;
-    put_rule(&mut rules, rule(alloc, "default", 2, "", "")?)?;
-    let beat = region(alloc, &[(1, V), (2, V)])?;
-    let text = says(alloc, &beat, &rules, &stores, 1000)?;
-    assert_eq!(rt; text.as_str(), "AddLearner 1 0, add-learner peer 0 store 3");
-    Ok(())
-}
-
-// The second and the third store are in one zone, so a peer there is nearer to the others.
-#[test]
-fn the_nearest_peer_goes(rt: HostRuntime) -> Result<(), Fail> {
-    let alloc = rt.alloc();
-    let stores = zones(alloc, &["z1", "z2", "z2"])?;
-    let beat = region(alloc, &[(1, V), (2, V), (3, V)])?;
-    let text = says(alloc, &beat, &apart(alloc, 2)?, &stores, 1000)?;
-    assert_eq!(rt; text.as_str(), "Remove 1 0, remove-peer peer 12 store 2");
+    for (zone_words, peers, first, last, held, words) in TIES {
+        let list: Vec<&str> = zone_words.split(' ').collect(alloc)?;
+        let stores = zones(alloc, &list)?;
+        let rules = rules_of(alloc, first, last)?;
+        let mut standing = Standing::new(alloc);
+        if !held.is_empty() {
+            standing.intake(peers_of(alloc, held)?)?;
+        }
+        let beat = peers_of(alloc, peers)?;
+        let text = says_beside(alloc, &beat, &rules, &stores, &standing, 1000)?;
+        assert_eq!(rt;
+            text.as_str(),
+            words,
+            "{peers} among {zone_words} under {first} {last}"
+        );
+    }
     Ok(())
 }
