@@ -1,11 +1,11 @@
 -- The answers to any lawful script are a safe history.
 use Rattle.std.proofs.Common.{cond, ltb, nat_eq, ◌⊎◌, inl, inr, ⊎_elim, ◌<◌, ◌≤◌, ◌≡◌, ℕ, ◌+◌, zero, suc, ◌^◌, List, [], ◌∷◌, ◌++◌, Bool, true, false, length, map, refl, sym, ap, ◌∙◌, subst, arith, append_assoc}
-use Rattle.std.specs.Prelude.{All, AllPairs, Contains, Option, None, Some, option_to_list, slice_index_or}
+use Rattle.std.specs.Prelude.{All, AllPairs, Contains, Option, None, Some, option_to_list, reverse, slice_index_or}
 use Rattle.std.specs.List.{AllByRecursion}
 use Rattle.std.proofs.lemmas.Bool.Decides.{nat_tests}
 use Rattle.std.proofs.lemmas.List.Elements.{All-from_recursion, All-nil, recursion_from_All}
 use Rattle.std.proofs.lemmas.List.Kept.{AllPairs-cons}
-use Rattle.std.proofs.lemmas.List.{length-replicate}
+use Rattle.std.proofs.lemmas.List.{append-nil, length-replicate}
 use Rattle.pd_types.specs.Batch.{first_of}
 use Rattle.pd_types.specs.declared.oracle.Batch.{Batch}
 use Rattle.pd_types.specs.declared.oracle.Seen.{Seen}
@@ -49,8 +49,9 @@ use Rattle.pd_cluster.specs.History.{HasPassed, IsFairAfter, batches_of, caller,
 use Rattle.pd_cluster.specs.Outcome.{IsSafeRun, StaysBounded}
 use Rattle.pd_cluster.specs.Replay.{State, TakeTurns, act_step, answers_from, answers_of, gives_up, line_step, part_at, past_at, setup_of, start, state_after}
 use Rattle.pd_cluster.specs.Talks.{Talk}
-use Rattle.pd_cluster.specs.Sent.{HaveSafeSteps, IsSafeSaid}
-use Rattle.pd_cluster.proofs.Sending.{printed, start_sound}
+use Rattle.pd_state.specs.declared.entry.Entry.{Entry}
+use Rattle.pd_cluster.specs.Sent.{AreMade, HaveSafeSteps, IsSafeSaid}
+use Rattle.pd_cluster.proofs.Sending.{none_at_first, printed, start_sound}
 
 -- the ranges of a script are the oracle's
 pub has_driver : (k : Setup) (d : ℕ) → IsInRange k.drivers k.clients (AtDriver, d) → HasDriver k d
@@ -445,7 +446,14 @@ safe_steps talks script lawful turns =
     let each = each_lawful ByLine script.drivers script.clients true script.lines lawful.lines in
     let all = printed script.drivers script.clients script.lines (start talks script) each turns (start_sound script.drivers script.lines (start talks script) (length-replicate (script.drivers + 1) []) refl refl) in
     let js = (state_after (start talks script) script.lines).kept.journals in
-    record { journals = past_at js; legal = all.legal; safe = All-from_recursion (λ (answer : Answer). IsSafeSaid (past_at js) answer.line answer.said) (answers_of talks script) all.safe }
+    record {
+      journals = past_at js;
+      legal = all.legal;
+      made = λ d.
+          let one = all.made d in
+          subst (λ (j : List Entry). AreMade d (answers_of talks script) (reverse j)) (sym (one.is ∙ ap (λ (j : List Entry). one.more ++ j) (none_at_first script.drivers d) ∙ append-nil one.more)) one.made;
+      safe = All-from_recursion (λ (answer : Answer). IsSafeSaid (past_at js) answer.line answer.said) (answers_of talks script) all.safe;
+    }
 
 pub history : (talks : List Talk) (mode : Mode) (script : Script) → IsLawfulScript mode script → IsSafeRun talks script
 history talks mode script lawful =

@@ -1,10 +1,11 @@
 -- Each step that a replay prints was sent by an entry of its journals, which are legal, and is safe there.
 use Rattle.std.proofs.Common.{refl, ◌≡◌, ℕ, zero, suc, ◌+◌, ◌<◌, ◌≤◌, ◌⊎◌, inl, inr, Bool, true, false, cond, eqb, List, [], ◌∷◌, ◌++◌, length, length-append, length-set, nat_eq, take, get_or, replicate, set, append_assoc, ap, sym, ◌∙◌, subst, Option, Some, None, arith}
-use Rattle.std.specs.Prelude.{Contains}
+use Rattle.std.specs.Prelude.{Contains, reverse}
 use Rattle.std.specs.List.{AllByRecursion}
 use Rattle.std.specs.FinMap as map
 use Rattle.std.specs.Ordering.{nat_cmp}
 use Rattle.std.proofs.lemmas.Bool.Decides.{nat_tests}
+use Rattle.std.proofs.lemmas.List.{reverse-append}
 use Rattle.pd_types.specs.declared.oracle.Actor.{Actor}
 use Rattle.pd_types.specs.declared.oracle.Actor.TheVariants.{Driver, Client, Store}
 use Rattle.pd_types.specs.declared.request.Request.{Request}
@@ -34,7 +35,7 @@ use Rattle.pd_cluster.specs.Replay.{Kept, SaysEnough, SaysEnoughFor, State, Take
 use Rattle.pd_cluster.specs.Talks.{talk_at}
 use Rattle.pd_cluster.specs.declared.lead.BegunLead.{BegunLead}
 use Rattle.pd_state.specs.StepTold.{TellsStep}
-use Rattle.pd_cluster.specs.Sent.{IsSafeSaid, IsSafelySent, IsToldSafely}
+use Rattle.pd_cluster.specs.Sent.{AreMade, IsJustOf, IsSafeSaid, IsSafelySent, IsToldSafely, MakesIn}
 use Rattle.pd_cluster.specs.Streams.{Waiting, first_of, has_room, messages_in, left_by, oldest_in, waiting_for, with_actor, with_actors, with_message, with_messages, without_first}
 use Rattle.pd_cluster.specs.declared.said.Said.{Said}
 use Rattle.pd_cluster.specs.declared.said.Said.TheVariants.{ByOracle, ByCluster, Popped}
@@ -289,10 +290,66 @@ all_each : {A : Type 0} (P : A → Type 0) (xs : List A) → ((x : A) → Contai
 all_each P [] f = tt
 all_each P (x ∷ xs) f = (f x (0, omega arith, refl), all_each P xs (λ y has. f y (suc has.0, omega (arith, has.1), has.2)))
 
+-- WHICH ENTRIES ARE MADE
+-- a journal has these more, the latest first, of which this holds as the line makes them
+pub record Makes (old new : List (List Entry)) (d : ℕ) (line : Line) (said : Said) : Type 0 where
+  pub more : List Entry
+  pub is : past_at new d ≡ more ++ past_at old d
+  pub made : MakesIn d line said (reverse more)
+
+same_driver : (d e : ℕ) → nat_eq d e ≡ true → d ≡ e
+same_driver d e h = grind (arith, nat_tests)
+
+other_driver : (d e : ℕ) → nat_eq d e ≡ false → e ≡ d → ⊥
+other_driver d e h same = grind (arith, nat_tests)
+
+-- a request that a line asks of a cluster
+module _ (kept : Kept) (d n : ℕ) (actor : Option Actor) (request : Request) (within : d < length kept.journals) where
+  abbrev it : Entry
+  it = served kept d n request
+
+  abbrev asking : Line
+  asking = record { number = n; actor = actor; act = Ask d request }
+
+  asked_makes : (e : ℕ) → Makes kept.journals (with_served kept d n request).journals e asking (ByCluster it.reply)
+  asked_makes e = by (nat_eq d e) refl
+    where
+      by : (t : Bool) → nat_eq d e ≡ t → Makes kept.journals (with_served kept d n request).journals e asking (ByCluster it.reply)
+      by true same = record {
+        more = it ∷ [];
+        is = subst (λ (k : ℕ). past_at (with_served kept d n request).journals k ≡ it ∷ past_at kept.journals k) (same_driver d e same) (put_here kept.journals d (it ∷ past_at kept.journals d) [] within);
+        made = subst (λ (t : Bool). IsJustOf t n request it.reply (it ∷ [])) (sym same) (record { entry = it; one = refl; line_is = refl; request_is = refl; reply_is = refl });
+      }
+      by false other = record {
+        more = [];
+        is = elim (put_at kept.journals d e (it ∷ past_at kept.journals d) []) [
+          | inl same ↦ same
+          | inr put ↦ absurd (other_driver d e other put.0)
+        ];
+        made = subst (λ (t : Bool). IsJustOf t n request it.reply []) (sym other) refl;
+      }
+
+-- what the oracle's answer asks for besides
+besides_makes : (kept : Kept) (line : Line) (reply : Answered) (lead : Option BegunLead) (o : Option Request) → asked_besides line.act reply lead ≡ o → (e : ℕ)
+    → Makes kept.journals (with_besides kept (driver_in line.actor) line.number o).journals e line (ByOracle reply)
+besides_makes kept line reply lead None asked e = record { more = []; is = refl; made = inl refl }
+besides_makes kept line reply lead (Some request) asked e =
+    let d = driver_in line.actor in
+    let it = served kept d line.number request in
+    elim (put_at kept.journals d e (it ∷ past_at kept.journals d) []) [
+      | inl same ↦ record { more = []; is = same; made = inl refl }
+      | inr put ↦ record {
+        more = it ∷ [];
+        is = put.1 ∙ ap (λ (k : ℕ). it ∷ past_at kept.journals k) (sym put.0);
+        made = inr (record { entry = it; one = refl; own = sym put.0; line_is = refl; lead = lead; asked = asked });
+      }
+    ]
+
 -- what a line leaves and prints
 record IsSoundTurn (drivers : ℕ) (state : State) (line : Line) (turned : Turned) : Type 0 where
   sound : IsSound drivers turned.after
   grows : AllGrow state.kept.journals turned.after.kept.journals
+  makes : (e : ℕ) → Makes state.kept.journals turned.after.kept.journals e line turned.said
   safe : IsSafeSaid (past_at turned.after.kept.journals) line turned.said
 
 module _ (drivers : ℕ) (state : State) (n d : ℕ) (actor : Option Actor) (request : Request) (enough : SaysEnough state.kept d request) (s : IsSound drivers state) (low : d ≤ drivers) where
@@ -328,6 +385,7 @@ module _ (drivers : ℕ) (state : State) (n d : ℕ) (actor : Option Actor) (req
           waits = λ e. sent_waits e (put_at state.streams d e sent_to map.empty);
         };
         grows = served_grows state.kept d n request enough s.legal;
+        makes = asked_makes state.kept d n actor request within;
         safe = λ driver other step act told.
             let same : d ≡ driver = cc in
             subst (λ (k : ℕ). IsToldSafely (past_at new_js k) n (served state.kept d n request).reply) same
@@ -355,6 +413,7 @@ module _ (drivers : ℕ) (state : State) (n store d : ℕ) (actor : Option Actor
   pop_sound = record {
     sound = record { places = s.places; legal = s.legal; waits = λ e. left_waits e (put_at state.streams d e left map.empty) };
     grows = grows_none js;
+    makes = λ e. record { more = []; is = refl; made = refl };
     safe = taken_safely (oldest_in (waiting_at state d) store) refl;
   }
 
@@ -385,6 +444,7 @@ oracle_sound drivers state line s =
             (λ store m w. waiting_grows state.kept.journals (with_besides state.kept d line.number o).journals e store m (grows e) w) (s.waits e);
       };
       grows = grows;
+      makes = besides_makes state.kept line (act_step state.oracle line.act).reply (lead_at state d) o refl;
       safe = tt;
     }
 
@@ -395,18 +455,33 @@ turn_sound drivers clients state n actor (Pop store d) lawful enough s = pop_sou
 turn_sound drivers clients state n actor _ lawful enough s = oracle_sound drivers state _ s
 
 -- ALL LINES
+-- a journal has these more, the latest first, made by the answers of these lines
+pub record AllMade (state : State) (lines : List Line) (d : ℕ) : Type 0 where
+  pub more : List Entry
+  pub is : past_at (state_after state lines).kept.journals d ≡ more ++ past_at state.kept.journals d
+  pub made : AreMade d (answers_from state lines) (reverse more)
+
 pub record IsPrinted (state : State) (lines : List Line) : Type 0 where
+  pub made : (d : ℕ) → AllMade state lines d
   pub grows : AllGrow state.kept.journals (state_after state lines).kept.journals
   pub legal : (d : ℕ) → IsLegal d (past_at (state_after state lines).kept.journals d)
   pub safe : AllByRecursion (λ (answer : Answer). IsSafeSaid (past_at (state_after state lines).kept.journals) answer.line answer.said) (answers_from state lines)
 
 pub printed : (drivers clients : ℕ) (lines : List Line) (state : State) → AllByRecursion (λ (line : Line). IsLawful drivers clients line.act) lines → TakeTurns state lines → IsSound drivers state → IsPrinted state lines
-printed drivers clients [] state lawful turns s = record { grows = grows_none state.kept.journals; legal = s.legal; safe = tt }
+printed drivers clients [] state lawful turns s = record { made = λ d. record { more = []; is = refl; made = refl }; grows = grows_none state.kept.journals; legal = s.legal; safe = tt }
 printed drivers clients (line ∷ lines) state lawful turns s =
     let turn = turn_sound drivers clients state line.number line.actor line.act lawful.0 turns.0 s in
     let next : State = (line_step state line).after in
     let rest = printed drivers clients lines next lawful.1 turns.1 turn.sound in
     record {
+      made = λ d.
+          let one = turn.makes d in
+          let two = rest.made d in
+          record {
+            more = two.more ++ one.more;
+            is = two.is ∙ ap (λ (j : List Entry). two.more ++ j) one.is ∙ sym (append_assoc two.more one.more (past_at state.kept.journals d));
+            made = (reverse one.more, reverse two.more, reverse-append two.more one.more, one.made, two.made);
+          };
       grows = grows_on state.kept.journals next.kept.journals (state_after next lines).kept.journals turn.grows rest.grows;
       legal = rest.legal;
       safe = (said_grows next.kept.journals (state_after next lines).kept.journals rest.grows line (record { line = line; said = (line_step state line).said }) turn.safe, rest.safe);
@@ -418,17 +493,16 @@ all_same zero v any e = inr refl
 all_same (suc n) v any zero = inl refl
 all_same (suc n) v any (suc e) = all_same n v any e
 
+pub none_at_first : (drivers d : ℕ) → past_at (replicate (drivers + 1) []) d ≡ []
+none_at_first drivers d = elim (all_same (drivers + 1) [] [] d) [ inl same ↦ same | inr same ↦ same ]
+
 pub start_sound : (drivers : ℕ) (lines : List Line) (state : State) → length state.kept.journals ≡ drivers + 1 → state.kept.journals ≡ replicate (drivers + 1) [] → state.streams ≡ replicate (drivers + 1) (waiting_for lines) → IsSound drivers state
 start_sound drivers lines state len journals streams = record {
   places = omega (arith, len);
-  legal = λ d. subst (IsLegal d) (sym (ap (λ (js : List (List Entry)). past_at js d) journals ∙ none d (all_same (drivers + 1) [] [] d))) tt;
+  legal = λ d. subst (IsLegal d) (sym (ap (λ (js : List (List Entry)). past_at js d) journals ∙ none_at_first drivers d)) tt;
   waits = λ d. subst (AllWait (IsWaiting state.kept.journals d)) (sym (ap (λ (ws : List Waiting). get_or ws d map.empty) streams)) (by d (all_same (drivers + 1) (waiting_for lines) map.empty d));
 }
   where
-    none : (d : ℕ) → (past_at (replicate (drivers + 1) []) d ≡ []) ⊎ (past_at (replicate (drivers + 1) []) d ≡ []) → past_at (replicate (drivers + 1) []) d ≡ []
-    none d (inl h) = h
-    none d (inr h) = h
-
     by : (d : ℕ) → (get_or (replicate (drivers + 1) (waiting_for lines)) d map.empty ≡ waiting_for lines) ⊎ (get_or (replicate (drivers + 1) (waiting_for lines)) d map.empty ≡ map.empty)
         → AllWait (IsWaiting state.kept.journals d) (get_or (replicate (drivers + 1) (waiting_for lines)) d map.empty)
     by d (inl h) = subst (AllWait (IsWaiting state.kept.journals d)) (sym h) (actors_wait (IsWaiting state.kept.journals d) map.empty lines (none_wait (IsWaiting state.kept.journals d)))

@@ -1,9 +1,10 @@
 -- What is printed of placement steps: each step was sent by an entry of a driver's journal, and was safe there, whoever asked for it (PD, region heartbeats: a
 -- step is sent to a region's leader only while a majority of its voters is live, and stays so). Each journal has its latest entry first.
-use Rattle.std.specs.Prelude.{◌≡◌, ℕ, ◌+◌, max, List, ◌∷◌, ◌++◌, length, reverse, Some, None, All, Contains}
+use Rattle.std.specs.Prelude.{◌≡◌, ◌⊎◌, ℕ, ◌+◌, max, nat_eq, Bool, true, false, List, [], ◌∷◌, ◌++◌, length, reverse, Option, Some, None, All, Contains}
 use Rattle.pd_types.specs.declared.request.Request.{Request}
 use Rattle.pd_types.specs.declared.step.Step.{Step}
 use Rattle.pd_types.specs.declared.step.StepMsg.{StepMsg}
+use Rattle.pd_script.specs.declared.act.Act.{Act}
 use Rattle.pd_script.specs.declared.act.Act.TheVariants.{Ask, Pop}
 use Rattle.pd_script.specs.declared.act.Line.{Line}
 use Rattle.pd_state.specs.declared.entry.Entry.{Entry}
@@ -20,7 +21,10 @@ use Rattle.pd_run.specs.declared.answer.StoreAnswer.{StoreAnswer}
 use Rattle.pd_run.specs.declared.answer.StoreSays.{StoreSays}
 use Rattle.pd_run.specs.declared.answer.StoreSays.TheVariants as stores
 use Rattle.pd_run.specs.Runs.{DriverPart, Journal, Run, StorePart}
-use Rattle.pd_cluster.specs.Answers.{Answer}
+use Rattle.tso_core.specs.declared.reply.Reply.{Reply as Answered}
+use Rattle.pd_cluster.specs.Answers.{Answer, driver_in}
+use Rattle.pd_cluster.specs.Replay.{asked_besides}
+use Rattle.pd_cluster.specs.declared.lead.BegunLead.{BegunLead}
 use Rattle.pd_cluster.specs.declared.said.Said.{Said}
 use Rattle.pd_cluster.specs.declared.said.Said.TheVariants.{ByOracle, ByCluster, Popped}
 
@@ -60,10 +64,51 @@ IsSafeSaid journals line (ByCluster reply) =
 IsSafeSaid journals line (Popped None) = Unit {0}
 IsSafeSaid journals line (Popped (Some message)) = (line.act ≡ Pop message.to message.driver) × IsSafelySent (journals message.driver) message
 
--- The headline of steps, of the answers to a script: there are journals of the drivers, each legal, by which each printed step is safe
+-- an entry of this line, request and reply, and no other
+pub record IsJust (line : ℕ) (request : Request) (reply : Reply) (made : List Entry) : Type 0 where
+  pub entry : Entry
+  pub one : made ≡ entry ∷ []
+  pub line_is : entry.line ≡ line
+  pub request_is : entry.request ≡ request
+  pub reply_is : entry.reply ≡ reply
+
+-- where it is this driver's cluster that was asked; else none
+abbrev pub IsJustOf : Bool → ℕ → Request → Reply → List Entry → Type 0
+IsJustOf true line request reply made = IsJust line request reply made
+IsJustOf false line request reply made = made ≡ []
+
+-- of a line that asks a cluster, the entry of that request with the reply that is answered
+abbrev pub AsksIn : ℕ → ℕ → Act → Reply → List Entry → Type 0
+AsksIn driver line (Ask asked request) reply made = IsJustOf (nat_eq asked driver) line request reply made
+AsksIn driver line _ reply made = made ≡ []
+
+-- of a line of the driver's at the oracle, the entry that its answer asks for besides: it begins a term, or ends it
+pub record IsTurnOf (driver : ℕ) (line : Line) (reply : Answered) (made : List Entry) : Type 0 where
+  pub entry : Entry
+  pub one : made ≡ entry ∷ []
+  pub own : driver_in line.actor ≡ driver
+  pub line_is : entry.line ≡ line.number
+  pub lead : Option BegunLead
+  pub asked : asked_besides line.act reply lead ≡ Some entry.request
+
+-- the entries that one answer makes in a driver's journal: at most one
+abbrev pub MakesIn : ℕ → Line → Said → List Entry → Type 0
+MakesIn driver line (ByOracle reply) made = (made ≡ []) ⊎ IsTurnOf driver line reply made
+MakesIn driver line (ByCluster reply) made = AsksIn driver line.number line.act reply made
+MakesIn driver line (Popped message) made = made ≡ []
+
+-- the entries of a journal, the earliest first, are those that the answers make, one answer after the other
+abbrev pub AreMade : ℕ → List Answer → List Entry → Type 0
+AreMade driver [] entries = entries ≡ []
+AreMade driver (answer ∷ answers) entries =
+    (made : List Entry) × (rest : List Entry) × (entries ≡ made ++ rest) × MakesIn driver answer.line answer.said made × AreMade driver answers rest
+
+-- The headline of steps, of the answers to a script: there are journals of the drivers, each legal and made of just the requests that lines asked of its cluster,
+-- with the replies that were answered, and of the terms that the oracle's answers begin and end; and by them each printed step is safe
 pub record HaveSafeSteps (answers : List Answer) : Type 0 where
   pub journals : ℕ → List Entry
   pub legal : (driver : ℕ) → IsLegal driver (journals driver)
+  pub made : (driver : ℕ) → AreMade driver answers (reverse (journals driver))
   pub safe : All (λ answer. IsSafeSaid journals answer.line answer.said) answers
 
 -- OF A RUN, whose text has the journals too
