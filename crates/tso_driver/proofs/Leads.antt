@@ -1,6 +1,6 @@
 -- The steps of a lead, of a tick and of a resignation are a driver's call.
-use Rattle.std.proofs.Common.{◌≡◌, ℕ, ◌+◌, ◌-◌, ◌*◌, ◌/◌, ◌%◌, ◌<◌, ◌⊎◌, eqb, cond, true, false, List, [], ◌∷◌, ◌++◌, sym, refl, ap, ◌∙◌, subst, inl, inr, ⊎_elim, arith, max, ne_eqb}
-use Rattle.std.specs.Prelude.{Contains, Option, Some, None, option_to_list, nat_lt, nat_le}
+use Rattle.std.proofs.Common.{◌≡◌, ℕ, ◌+◌, ◌-◌, ◌*◌, ◌/◌, ◌%◌, ◌<◌, ◌≤◌, ◌⊎◌, eqb, cond, true, false, List, [], ◌∷◌, ◌++◌, sym, refl, ap, ◌∙◌, subst, inl, inr, ⊎_elim, arith, max, ne_eqb}
+use Rattle.std.specs.Prelude.{Contains, map, Option, Some, None, option_to_list, nat_lt, nat_le}
 use Rattle.std.proofs.lemmas.Bool.{leb-true}
 use Rattle.std.proofs.lemmas.List.{append-nil}
 use Rattle.std.proofs.lemmas.List.Elements.{Contains-append_left, Contains-push, Contains-push_cases}
@@ -15,11 +15,20 @@ use Rattle.tso_model.specs.History.{claims, Extends, greatest}
 use Rattle.tso_model.specs.Steps.{held, held_or, knows, claimed, new_claim, saves, saved_claim, raised, publishes}
 use Rattle.tso_model.specs.Plan.{end_of, past_clock, lead_next, tick_next, saves_for}
 use Rattle.tso_model.proofs.Basics.{by_bool, by_eq, by_lt}
+use Rattle.tso_driver.specs.declared.said.DriverSaid.{DriverSaid}
 use Rattle.tso_driver.specs.declared.said.DriverSaid.TheVariants.{Led, Ticked, Resigned}
 use Rattle.tso_driver.specs.declared.reply.LeadReply.TheVariants.{Won, Beaten, Lost as LeadLost, TermsSpent, ClockRange as LeadPast}
 use Rattle.tso_driver.specs.declared.reply.TickReply.TheVariants.{Moved, Idle, Lost as TickLost, ClockRange as TickPast, NotLeading}
 use Rattle.tso_board.specs.Told.{IsHigher, Rises, given_up, holding}
-use Rattle.tso_driver.specs.Driving.{DriverDid, ClaimsGrow, moved_to}
+use Rattle.tso_driver.specs.Driving.{DriverDid, ClaimsGrow, ClaimsTerm, TermsGrow, terms, moved_to}
+
+-- an option has one value
+pub some-inj : {A : Type 0} (x y : A) → Some x ≡ Some y → x ≡ y
+some-inj {A} x y e = ap or_x e
+  where
+    or_x : Option A → A
+    or_x None = x
+    or_x (Some z) = z
 
 -- WINDOWS
 grow_same : (old new : View) → claims new ≡ claims old → ClaimsGrow old new
@@ -58,6 +67,33 @@ grow_longer old new more x y was now e at = record {
       (Contains-push_cases more y c (subst (λ l. Contains l c) now h));
 }
 
+-- TERMS
+terms_append : (xs ys : List Claim) → map (λ (c : Claim). c.window.term) (xs ++ ys) ≡ map (λ (c : Claim). c.window.term) xs ++ map (λ (c : Claim). c.window.term) ys
+terms_append [] ys = refl
+terms_append (x ∷ xs) ys = λ i. x.window.term ∷ terms_append xs ys i
+
+-- no term was claimed
+none_claimed : (said : DriverSaid) (old new : View) → ClaimsTerm said None → claims new ≡ claims old → TermsGrow said old new
+none_claimed said old new told e = record { claimed = None; told = told; grown = ap (map (λ (c : Claim). c.window.term)) e ∙ sym (append-nil (terms old)); later = λ t z. absurd (cc z) }
+
+-- this term was claimed
+one_claimed : (said : DriverSaid) (old new : View) (x : Claim) → ClaimsTerm said (Some x.window.term) → claims new ≡ claims old ++ x ∷ [] → old.cell.term < x.window.term → x.window.term ≤ new.cell.term → TermsGrow said old new
+one_claimed said old new x told e low high = record {
+  claimed = Some x.window.term;
+  told = told;
+  grown = ap (map (λ (c : Claim). c.window.term)) e ∙ terms_append (claims old) (x ∷ []);
+  later = λ t z. let same = some-inj x.window.term t z in (omega (arith, low, same), omega (arith, high, same));
+}
+
+-- the last window was made longer
+longer_claimed : (said : DriverSaid) (old new : View) (more : List Claim) (x y : Claim) → ClaimsTerm said None → claims old ≡ more ++ x ∷ [] → claims new ≡ more ++ y ∷ [] → y.window.term ≡ x.window.term → TermsGrow said old new
+longer_claimed said old new more x y told was now e = record {
+  claimed = None;
+  told = told;
+  grown = ap (map (λ (c : Claim). c.window.term)) now ∙ terms_append more (y ∷ []) ∙ (λ i. map (λ (c : Claim). c.window.term) more ++ e i ∷ []) ∙ sym (terms_append more (x ∷ [])) ∙ ap (map (λ (c : Claim). c.window.term)) (sym was) ∙ sym (append-nil (terms old));
+  later = λ t z. absurd (cc z);
+}
+
 published_more : (v : View) (d word : ℕ) (P : ℕ → Type 0) → P word → v.driver ≡ d → (p : Published) → Contains (v.published ++ record { driver = v.driver; word = word } ∷ []) p → Contains v.published p ⊎ ((p.driver ≡ d) × P p.word)
 published_more v d word P is same p h = ⊎_elim
     (λ (z : Contains v.published p). inl z)
@@ -74,6 +110,7 @@ module _ (now : ℕ) (v : View) (cell : CellWord) (rises : Rises v.cell cell) wh
     term = rises.term;
     saved = rises.saved;
     windows = grow_same v (knows cell v) refl;
+    claimed = none_claimed (Led now TermsSpent) v (knows cell v) refl refl;
     starts = sym (append-nil v.starts);
     founds = λ x h. h;
     published = λ p h. inl h;
@@ -89,6 +126,7 @@ module _ (now : ℕ) (v : View) (cell : CellWord) (rises : Rises v.cell cell) wh
     term = rises.term;
     saved = rises.saved;
     windows = grow_same v (knows cell v) refl;
+    claimed = none_claimed (Led now LeadPast) v (knows cell v) refl refl;
     starts = sym (append-nil v.starts);
     founds = λ x h. h;
     published = λ p h. inl h;
@@ -104,6 +142,7 @@ module _ (now : ℕ) (v : View) (cell : CellWord) (rises : Rises v.cell cell) wh
     term = omega (arith, rises.term, more.term);
     saved = omega (arith, rises.saved, more.saved);
     windows = grow_same v (knows found v) refl;
+    claimed = none_claimed (Led now (Beaten found)) v (knows found v) refl refl;
     starts = sym (append-nil v.starts);
     founds = λ x h. h;
     published = λ p h. inl h;
@@ -122,6 +161,7 @@ module _ (now : ℕ) (v : View) (cell : CellWord) (rises : Rises v.cell cell) wh
     term = omega (arith, rises.term, more.term);
     saved = omega (arith, rises.saved, more.saved);
     windows = grow_more v (given_up (knows found has_claimed)) (new_claim (knows cell v)) refl refl (omega (arith, rises.term)) (omega (arith, low));
+    claimed = one_claimed (Led now (LeadLost found)) v (given_up (knows found has_claimed)) (new_claim (knows cell v)) (cell.term + 1, refl) refl (omega (arith, rises.term)) (omega (arith, more.term));
     starts = sym (append-nil v.starts);
     founds = λ x h. h;
     published = published_more v v.driver 0 (λ w. w ≡ 0) refl refl;
@@ -156,6 +196,7 @@ module _ (now : ℕ) (v : View) (cell : CellWord) (rises : Rises v.cell cell) wh
     term = omega (arith, rises.term);
     saved = omega (arith, rises.saved);
     windows = grow_more v (publishes (packed (end_of next) (cell.term + 1)) (has_raised cursor)) won_claim refl refl (omega (arith, rises.term)) (omega (arith, low));
+    claimed = one_claimed (Led now (Won (cell.term + 1) next (end_of next))) v (publishes (packed (end_of next) (cell.term + 1)) (has_raised cursor)) won_claim refl refl (omega (arith, rises.term)) (omega arith);
     starts = by_eq (λ b. cond b v.starts (v.starts ++ record { driver = v.driver; at = next * 262144 } ∷ []) ≡ v.starts ++ record { driver = v.driver; at = next * 262144 } ∷ []) (next * 262144) 0 (λ e. absurd (omega (arith, e))) (λ _. refl);
     founds = λ x h. Contains-append_left v.founds (record { driver = v.driver; cursor = cursor; start = greatest v.driver v.starts } ∷ []) x h;
     published = published_more v v.driver (packed (end_of next) (cell.term + 1)) (λ w. w ≡ packed (end_of next) (cell.term + 1)) refl refl;
@@ -164,13 +205,6 @@ module _ (now : ℕ) (v : View) (cell : CellWord) (rises : Rises v.cell cell) wh
   }
 
 -- A TICK
-pub some-inj : {A : Type 0} (x y : A) → Some x ≡ Some y → x ≡ y
-some-inj {A} x y e = ap or_x e
-  where
-    or_x : Option A → A
-    or_x None = x
-    or_x (Some z) = z
-
 next_some : (cursor hi now next : ℕ) → tick_next cursor hi now ≡ Some next → 0 < next
 next_some cursor hi now next = by_lt (λ a. cond a (Some now) (cond (nat_lt 131072 (cursor % 262144)) (Some (cursor / 262144 + 1)) (cond (nat_le hi (cursor / 262144)) (Some (cursor / 262144 + 1)) None)) ≡ Some next → 0 < next) 1 (now - cursor / 262144)
     (λ lt e. omega (arith, lt, some-inj now next e))
@@ -199,6 +233,7 @@ module _ (now : ℕ) (v : View) where
     term = omega arith;
     saved = omega arith;
     windows = grow_same v v refl;
+    claimed = none_claimed (Ticked now NotLeading) v v refl refl;
     starts = sym (append-nil v.starts);
     founds = λ x h. h;
     published = λ p h. inl h;
@@ -213,6 +248,7 @@ module _ (now : ℕ) (v : View) where
     term = omega arith;
     saved = omega arith;
     windows = grow_same v v refl;
+    claimed = none_claimed (Resigned false) v v refl refl;
     starts = sym (append-nil v.starts);
     founds = λ x h. h;
     published = λ p h. inl h;
@@ -227,6 +263,7 @@ module _ (now : ℕ) (v : View) where
     term = omega arith;
     saved = omega arith;
     windows = grow_same v (given_up v) refl;
+    claimed = none_claimed (Resigned true) v (given_up v) refl refl;
     starts = sym (append-nil v.starts);
     founds = λ x h. h;
     published = published_more v v.driver 0 (λ w. w ≡ 0) refl refl;
@@ -243,6 +280,7 @@ module _ (now : ℕ) (v : View) where
       term = omega arith;
       saved = omega arith;
       windows = grow_same v (probed cursor) refl;
+      claimed = none_claimed (Ticked now Idle) v (probed cursor) refl refl;
       starts = sym (append-nil v.starts);
       founds = λ x h. Contains-append_left v.founds (the_found cursor ∷ []) x h;
       published = λ p h. inl h;
@@ -258,6 +296,7 @@ module _ (now : ℕ) (v : View) where
       term = omega arith;
       saved = omega arith;
       windows = grow_same v (probed cursor) refl;
+      claimed = none_claimed (Ticked now TickPast) v (probed cursor) refl refl;
       starts = sym (append-nil v.starts);
       founds = λ x h. Contains-append_left v.founds (the_found cursor ∷ []) x h;
       published = λ p h. inl h;
@@ -273,6 +312,7 @@ module _ (now : ℕ) (v : View) where
       term = omega arith;
       saved = omega arith;
       windows = grow_same v (raised (next * 262144) again (probed cursor)) refl;
+      claimed = none_claimed (Ticked now (Moved next (held v).hi)) v (raised (next * 262144) again (probed cursor)) refl refl;
       starts = by_eq (λ b. cond b v.starts (v.starts ++ record { driver = v.driver; at = next * 262144 } ∷ []) ≡ v.starts ++ record { driver = v.driver; at = next * 262144 } ∷ []) (next * 262144) 0 (λ z. absurd (omega (arith, z, next_some cursor (held v).hi now next e))) (λ _. refl);
       founds = λ x h. Contains-append_left (v.founds ++ the_found cursor ∷ []) (the_found again ∷ []) x (Contains-append_left v.founds (the_found cursor ∷ []) x h);
       published = λ p h. inl h;
@@ -295,6 +335,7 @@ module _ (now : ℕ) (v : View) where
       term = more.term;
       saved = more.saved;
       windows = grow_same v (given_up (knows found (probed cursor))) refl;
+      claimed = none_claimed (Ticked now (TickLost found)) v (given_up (knows found (probed cursor))) refl refl;
       starts = sym (append-nil v.starts);
       founds = λ x h. Contains-append_left v.founds (the_found cursor ∷ []) x h;
       published = published_more v v.driver 0 (λ w. w ≡ 0) refl refl;
@@ -332,6 +373,7 @@ module _ (now : ℕ) (v : View) where
             term = more.term;
             saved = omega (arith, more.saved, ends, hi_is);
             windows = grow_longer v last v.older c (longer next) (ap (λ o. v.older ++ option_to_list o) own) refl (record { term = refl; driver = refl; lo = λ _. lo_stays next; hi = omega (arith, ends, hi_is) }) refl;
+            claimed = longer_claimed (Ticked now (Moved next (end_of next))) v last v.older c (longer next) refl (ap (λ o. v.older ++ option_to_list o) own) refl refl;
             starts = by_eq (λ b. cond b v.starts (v.starts ++ record { driver = v.driver; at = next * 262144 } ∷ []) ≡ v.starts ++ record { driver = v.driver; at = next * 262144 } ∷ []) (next * 262144) 0 (λ z. absurd (omega (arith, z, next_some cursor (held v).hi now next e))) (λ _. refl);
             founds = λ x h. Contains-append_left (v.founds ++ the_found cursor ∷ []) (the_found again ∷ []) x (Contains-append_left v.founds (the_found cursor ∷ []) x h);
             published = published_more v v.driver (packed (end_of next) c.window.term) (λ w. (x : Window) × (holding v ≡ Some x) × (w ≡ packed (end_of next) x.term)) (c.window, mine, refl) refl;

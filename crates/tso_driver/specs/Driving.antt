@@ -1,5 +1,5 @@
 -- What a driver's call does to what the driver knows, by its answer.
-use Rattle.std.specs.Prelude.{◌≡◌, ℕ, ◌*◌, ◌<◌, ◌≤◌, ◌⊎◌, true, false, List, [], ◌∷◌, ◌++◌, map, Option, Some, None, cond, Contains}
+use Rattle.std.specs.Prelude.{◌≡◌, ℕ, ◌*◌, ◌<◌, ◌≤◌, ◌⊎◌, true, false, List, [], ◌∷◌, ◌++◌, map, Option, Some, None, option_to_list, cond, Contains}
 use Rattle.pd_types.specs.declared.oracle.CellWord.{CellWord}
 use Rattle.pd_types.specs.declared.oracle.Window.{Window}
 use Rattle.pd_types.specs.declared.stamp.TheConstants.{LOGICAL}
@@ -98,6 +98,27 @@ pub record ClaimsGrow (old new : View) : Type 0 where
   pub back : (e : Claim) → Contains (claims new) e → ((c : Claim) × Contains (claims old) c × (c.window.term ≡ e.window.term)) ⊎ ((old.cell.term < e.window.term) × (e.window.term < LOGICAL))
   pub own : ((c : Claim) → Contains (claims old) c → c.window.driver ≡ old.driver) → (e : Claim) → Contains (claims new) e → e.window.driver ≡ old.driver
 
+-- the term that a call with this answer claimed: the one that was won; one that no answer tells where a lead lost it at once; else none
+abbrev pub ClaimsTerm : DriverSaid → Option ℕ → Type 0
+ClaimsTerm (Led now (Won term lo hi)) claimed = claimed ≡ Some term
+ClaimsTerm (Led now (Beaten found)) claimed = claimed ≡ None
+ClaimsTerm (Led now (LeadLost found)) claimed = (term : ℕ) × (claimed ≡ Some term)
+ClaimsTerm (Led now TermsSpent) claimed = claimed ≡ None
+ClaimsTerm (Led now LeadPast) claimed = claimed ≡ None
+ClaimsTerm (Ticked now reply) claimed = claimed ≡ None
+ClaimsTerm (Resigned held) claimed = claimed ≡ None
+
+-- the terms of the driver's windows, in the order of their claims
+abbrev pub terms : View → List ℕ
+terms v = map (λ (c : Claim). c.window.term) (claims v)
+
+-- The terms grow by the one that the call claimed, if any. It is above the cell that was known before, and not above the one known after
+pub record TermsGrow (said : DriverSaid) (old new : View) : Type 0 where
+  pub claimed : Option ℕ
+  pub told : ClaimsTerm said claimed
+  pub grown : terms new ≡ terms old ++ option_to_list claimed
+  pub later : (term : ℕ) → claimed ≡ Some term → (old.cell.term < term) × (term ≤ new.cell.term)
+
 -- the found cell has such a term, and is what the driver knows now
 pub record IsFoundAbove (found : CellWord) (new : View) : Type 0 where
   pub higher : IsHigher new found.term
@@ -132,13 +153,14 @@ DriverTold (Ticked now NotLeading) old new = holding old ≡ None
 DriverTold (Resigned true) old new = (w : Window) × (holding old ≡ Some w)
 DriverTold (Resigned false) old new = holding old ≡ None
 
--- A call of a driver, from what it knew to what it knows: the cell that it knows never falls; its windows grow; it raised its cursor to what it answered and to nothing else; the cursors that it found stay; besides 0 it published only the end that it answered; it holds what its answer says
+-- A call of a driver, from what it knew to what it knows: the cell that it knows never falls; its windows grow, by one where its answer says so; it raised its cursor to what it answered and to nothing else; the cursors that it found stay; besides 0 it published only the end that it answered; it holds what its answer says
 pub record DriverDid (said : DriverSaid) (old new : View) : Type 0 where
   pub driver : new.driver ≡ old.driver
   pub opening : new.opening ≡ old.opening
   pub term : old.cell.term ≤ new.cell.term
   pub saved : old.cell.saved ≤ new.cell.saved
   pub windows : ClaimsGrow old new
+  pub claimed : TermsGrow said old new
   pub starts : new.starts ≡ old.starts ++ map (start_at old.driver) (raises said)
   pub founds : Keeps old.founds new.founds
   pub published : (p : Published) → Contains new.published p → Contains old.published p ⊎ ((p.driver ≡ old.driver) × Publishes (holding old) said p.word)

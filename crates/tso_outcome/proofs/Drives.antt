@@ -1,7 +1,7 @@
 -- What all calls of a driver together do to what it knows.
 use Rattle.std.proofs.Common.{◌≡◌, ◌≢◌, ℕ, zero, suc, ◌+◌, ◌*◌, ◌<◌, ◌≤◌, ◌⊎◌, eqb, cond, Bool, true, false, List, [], ◌∷◌, ◌++◌, sym, refl, ap, ◌∙◌, subst, inl, inr, ⊎_elim, arith, append_assoc, max}
-use Rattle.std.specs.Prelude.{Contains, map, Option, Some, None}
-use Rattle.std.proofs.lemmas.List.Elements.{Contains-push_cases, Contains-append_cases}
+use Rattle.std.specs.Prelude.{Contains, map, Option, Some, None, option_to_list, All}
+use Rattle.std.proofs.lemmas.List.Elements.{Contains-push_cases, Contains-append_cases, All-cons, All-nil, All-weaker}
 use Rattle.pd_types.specs.declared.oracle.Window.{Window}
 use Rattle.tso_model.specs.declared.entries.Claim.{Claim}
 use Rattle.tso_model.specs.declared.entries.Start.{Start}
@@ -10,6 +10,8 @@ use Rattle.tso_model.specs.declared.view.View.{View}
 use Rattle.tso_model.specs.declared.view.Setup.{Setup}
 use Rattle.tso_model.specs.Words.{IsOpen, window, claim}
 use Rattle.tso_model.specs.History.{claims, Extends, greatest}
+use Rattle.tso_model.specs.Ledger.{IsRisingBy}
+use Rattle.tso_outcome.specs.Terms.{ClaimedBy}
 use Rattle.tso_model.proofs.Basics.{by_bool, by_eq, in_head, in_tail, in_cons, in_nil, greatest-push}
 use Rattle.tso_driver.specs.declared.said.DriverSaid.{DriverSaid}
 use Rattle.tso_outcome.specs.declared.said.DriverAnswer.{DriverAnswer}
@@ -18,7 +20,7 @@ use Rattle.tso_driver.specs.declared.reply.LeadReply.TheVariants.{Won, Beaten, L
 use Rattle.tso_driver.specs.declared.reply.TickReply.TheVariants.{Moved, Idle, Lost as TickLost, ClockRange as TickPast, NotLeading}
 use Rattle.tso_outcome.specs.Drives.{Drove, held_by, raised}
 use Rattle.pd_types.specs.Numbers.{greatest_of}
-use Rattle.tso_driver.specs.Driving.{DriverDid, DriverTold, ClaimsGrow, Keeps, held_after, moved_to, raises, start_at, Publishes}
+use Rattle.tso_driver.specs.Driving.{DriverDid, DriverTold, ClaimsGrow, TermsGrow, ClaimsTerm, terms, Keeps, held_after, moved_to, raises, start_at, Publishes}
 use Rattle.tso_board.specs.Told.{holding}
 use Rattle.tso_outcome.proofs.Chains.{map-append}
 
@@ -84,6 +86,46 @@ module _ where
   pub drove_own : (v : View) (answers : List DriverAnswer) (w : View) → Drove v answers w → ((c : Claim) → Contains (claims v) c → c.window.driver ≡ v.driver) → (e : Claim) → Contains (claims w) e → e.window.driver ≡ v.driver
   drove_own v [] w h own e there = own e (subst (λ (u : View). Contains (claims u) e) (sym h) there)
   drove_own v (a ∷ rest) w h own e there = drove_own h.0 rest w h.2 (λ c z. h.1.windows.own own c z ∙ sym h.1.driver) e there ∙ h.1.driver
+
+-- THE TERMS THAT WERE CLAIMED
+-- the term is above the cell that was known at first, and not above the one known at last
+abbrev pub ClaimedAfter : View → View → ℕ → Type 0
+ClaimedAfter v w term = (v.cell.term < term) × (term ≤ w.cell.term)
+
+-- the terms that a driver's calls claimed
+pub record TermsClaimed (v : View) (answers : List DriverAnswer) (w : View) : Type 0 where
+  pub more : List ℕ
+  pub grown : terms w ≡ terms v ++ more
+  pub claimed : ClaimedBy answers more
+  pub rise : IsRisingBy (λ (term : ℕ). term) more
+  pub later : All (ClaimedAfter v w) more
+
+-- the term of one call, if it claimed one, and those of the calls after it
+module _ (u v w : View) (le : u.cell.term ≤ v.cell.term) (on : v.cell.term ≤ w.cell.term) (more : List ℕ) (rise : IsRisingBy (λ (term : ℕ). term) more) (later : All (ClaimedAfter v w) more) where
+  rest_later : All (ClaimedAfter u w) more
+  rest_later = All-weaker (ClaimedAfter v w) (ClaimedAfter u w) (λ x z. (omega (arith, le, z.0), z.1)) more later
+
+  with_one : (one : Option ℕ) → ((term : ℕ) → one ≡ Some term → ClaimedAfter u v term) → IsRisingBy (λ (term : ℕ). term) (option_to_list one ++ more) × All (ClaimedAfter u w) (option_to_list one ++ more)
+  with_one None first = (rise, rest_later)
+  with_one (Some t) first =
+      let h = first t refl in (
+        (All-weaker (ClaimedAfter v w) (λ x. t < x) (λ x z. omega (arith, h.1, z.0)) more later, rise),
+        All-cons (ClaimedAfter u w) t more (h.0, omega (arith, h.1, on)) rest_later,
+      )
+
+pub drove_terms : (v : View) (answers : List DriverAnswer) (w : View) → Drove v answers w → TermsClaimed v answers w
+drove_terms v [] w h = record { more = []; grown = sym (ap terms h) ∙ sym (append-nil (terms v)); claimed = refl; rise = tt; later = All-nil (ClaimedAfter v w) }
+drove_terms v (a ∷ rest) w h =
+    let r = drove_terms h.0 rest w h.2 in
+    let g = h.1.claimed in
+    let all = with_one v h.0 w h.1.term (drove_cells h.0 rest w h.2).0 r.more r.rise r.later g.claimed g.later in
+    record {
+      more = option_to_list g.claimed ++ r.more;
+      grown = r.grown ∙ ap (λ l. l ++ r.more) g.grown ∙ append_assoc (terms v) (option_to_list g.claimed) r.more;
+      claimed = (g.claimed, r.more, refl, g.told, r.claimed);
+      rise = all.0;
+      later = all.1;
+    }
 
 -- PUBLISHED WORDS
 -- the answer at which the word was published

@@ -1,7 +1,7 @@
 -- `beaten` and `lost` name another's term, and `stale` and `not-leader` have their cause.
 use Rattle.std.proofs.Common.{◌≡◌, ◌≢◌, ℕ, zero, suc, ◌+◌, ◌*◌, ◌%◌, ◌/◌, ◌<◌, ◌≤◌, ◌⊎◌, eqb, cond, Bool, true, false, List, [], ◌∷◌, ◌++◌, sym, refl, ap, ◌∙◌, subst, inl, inr, ⊎_elim, arith, max}
 use Rattle.std.specs.Prelude.{Contains, map, Option, Some, None, All, Result, Ok, Err}
-use Rattle.std.proofs.lemmas.List.Elements.{All-contains, Contains-append_right}
+use Rattle.std.proofs.lemmas.List.Elements.{All-contains, All-contains_itself, All-map, All-weaker, Contains-append_right}
 use Rattle.pd_types.specs.declared.oracle.CellWord.{CellWord}
 use Rattle.pd_types.specs.declared.oracle.Seen.{Seen}
 use Rattle.pd_types.specs.declared.oracle.Window.{Window}
@@ -12,6 +12,7 @@ use Rattle.tso_model.specs.declared.view.View.{View}
 use Rattle.tso_model.specs.declared.view.Setup.{Setup}
 use Rattle.tso_model.specs.Words.{IsOpen, packed, window, claim, opening_claim}
 use Rattle.tso_model.specs.History.{History, Names, claims, Extends}
+use Rattle.tso_model.specs.Ledger.{IsRisingBy}
 use Rattle.tso_model.specs.Moves.{nothing_seen, driver_view, client_view}
 use Rattle.tso_model.specs.Sound.{Looked}
 use Rattle.tso_model.proofs.Basics.{in_head, in_tail, in_cons, in_nil}
@@ -25,32 +26,19 @@ use Rattle.tso_driver.specs.declared.reply.LeadReply.TheVariants.{Won, Beaten, L
 use Rattle.tso_driver.specs.declared.reply.TickReply.TheVariants.{Moved, Idle, Lost as TickLost, ClockRange as TickPast, NotLeading}
 use Rattle.tso_client.specs.declared.draw.DrawFault.TheVariants.{NotLeader, Stale, Again}
 use Rattle.tso_outcome.specs.Drives.{Drove, held_by}
-use Rattle.tso_driver.specs.Driving.{DriverDid, DriverTold, ClaimsGrow, IsFoundAbove, Publishes}
+use Rattle.tso_driver.specs.Driving.{DriverDid, DriverTold, IsFoundAbove, Publishes, terms}
 use Rattle.tso_board.specs.Told.{holding}
 use Rattle.tso_outcome.specs.Clients.{Client, Drew, ClientDid, seen_by, posted}
 use Rattle.tso_outcome.proofs.Passes.{pass_kept, ClientTold, HasLooked, HasStale}
 use Rattle.tso_outcome.specs.Runs.{Run, DriverPart, ClientPart}
-use Rattle.tso_outcome.specs.Terms.{GivesUp, IsByAnother, KeepsFound, IsStale, IsNotLeader, KeepsLooks, KeepTerms}
+use Rattle.tso_outcome.specs.Terms.{GivesUp, ClaimedBy, HadClaimed, IsByAnother, KeepsFound, IsStale, IsNotLeader, KeepsLooks, KeepTerms}
 use Rattle.tso_client.specs.Posts.{entries_of}
 use Rattle.tso_outcome.proofs.Ended.{CameBack}
 use Rattle.tso_outcome.specs.Ends.{DriverEnd, ClientEnd}
 use Rattle.tso_outcome.proofs.Chains.{ClientSplit, drew_client, drew_seen, drew_looks, drew_slip}
-use Rattle.tso_outcome.proofs.Drives.{DriverSplit, drove_split, drove_opening, drove_driver, drove_cells, drove_kept, drove_back, drove_own, drove_claimed, IsClaimed, WasPublished}
+use Rattle.tso_outcome.proofs.Drives.{DriverSplit, drove_split, drove_opening, drove_driver, drove_cells, drove_kept, drove_back, drove_own, drove_terms, drove_claimed, IsClaimed, WasPublished}
 use Rattle.tso_outcome.proofs.Above.{client_end, client_at, in_map, to_map}
 use Rattle.tso_outcome.proofs.Known.{once, the_history, claims_stand, stand_claims, driver_of_claim, claim_in, claim_is, window_in, driver_of_word, look_in, later_made, has_term}
-
--- what stands in a list stands at a place of it
-record Standing {A : Type 0} (xs : List A) (x : A) : Type 0 where
-  before : List A
-  after : List A
-  is : xs ≡ before ++ x ∷ after
-
-standing : {A : Type 0} (xs : List A) (x : A) → Contains xs x → Standing xs x
-standing [] x h = in_nil x h
-standing (y ∷ ys) x h = ⊎_elim
-    (λ (e : y ≡ x). record { before = []; after = ys; is = λ i. e i ∷ ys })
-    (λ (z : Contains ys x). let s = standing ys x z in record { before = y ∷ s.before; after = s.after; is = λ i. y ∷ s.is i })
-    (in_cons y ys x h)
 
 pub driver_end : (run : Run) (b : CameBack run) (part : DriverPart) → Contains run.drivers part → (e : DriverEnd) × Contains b.drivers e × (e.part ≡ part)
 driver_end run b part h = in_map (λ (e : DriverEnd). e.part) b.drivers part (subst (λ l. Contains l part) b.drivers_are h)
@@ -62,60 +50,73 @@ driver_at run b e h before a after is = drove_split (driver_view run.setup e.par
 
 module _ (run : Run) (b : CameBack run) where
   -- WHAT A DRIVER FOUND
-  won_there : (first old : View) (before : List DriverAnswer) → Drove first before old → (line now term lo hi : ℕ) → Contains before (record { line = line; said = Led now (Won term lo hi) }) → (c : Claim) × Contains (claims old) c × (c.window.term ≡ term)
-  won_there first old before to line now term lo hi there =
-      let a : DriverAnswer = record { line = line; said = Led now (Won term lo hi) } in
-      let p = standing before a there in
-      let s = drove_split first p.before a p.after old (subst (λ l. Drove first l old) p.is to) in
-      let e = drove_kept s.new p.after old s.on (claim (window term s.new.driver lo hi) s.did.told.saved) s.did.told.stands in
-      (e.0, e.1, e.2.term)
+  -- what a call makes of the calls before it
+  drove_push : (first : View) (before : List DriverAnswer) (old : View) → Drove first before old → (a : DriverAnswer) (new : View) → DriverDid a.said old new → Drove first (before ++ a ∷ []) new
+  drove_push first [] old to a new did = (new, subst (λ v. DriverDid a.said v new) (sym to) did, refl)
+  drove_push first (x ∷ rest) old to a new did = (to.0, to.1, drove_push to.0 rest old to.2 a new did)
 
-  by_another : (e : DriverEnd) → Contains b.drivers e → (before : List DriverAnswer) (said : DriverSaid) (after : List DriverAnswer) (old new : View) → Drove (driver_view run.setup e.part.number) before old → DriverDid said old new → Drove new after e.view
-      → (found : CellWord) → IsFoundAbove found new → IsByAnother run e.part.number before found
-  by_another e h before said after old new to did on found above =
-      let known = b.unites.cells e.view (to_map (λ (x : DriverEnd). x.view) b.drivers e h) in
-      let first : View = driver_view run.setup e.part.number in
-      let own : (x : Claim) → Contains (claims new) x → x.window.driver ≡ new.driver = λ x z. did.windows.own (λ y q. drove_own first before old to (λ u w. in_nil u w) y q ∙ sym (drove_driver first before old to)) x z ∙ sym did.driver in
-      let opening : run.setup.cell.term < found.term = omega (arith, above.higher.0, ap (λ (x : CellWord). x.term) (did.opening ∙ drove_opening first before old to)) in
-      let below : (x : Claim) → Contains (claims new) x → x.window.term < found.term = λ x z. All-contains (λ (c : Claim). c.window.driver ≡ new.driver → c.window.term < found.term) (claims new) x above.higher.1 z (own x z) in
-      let high : found.term ≤ (the_history run b).newest.window.term = omega (arith, above.known, (drove_cells new after e.view on).0, known.0, b.gathered.a.known.0) in
-      let c = has_term run b found.term (omega (arith, opening)) high in
-      let made = later_made run b c.0 c.1 (omega (arith, opening, c.2)) in
-      record {
-        window = c.0.window;
-        there = window_in run b c.0 c.1;
-        term_is = c.2;
-        another = (
-          made,
-          λ (mine : c.0.window.driver ≡ e.part.number).
-              let f = driver_of_claim run b c.0 c.1 made in
-              let one : f.0 ≡ e = once (λ (x : DriverEnd). x.part.number) b.drivers b.drivers_once f.0 e f.1 h (sym (claim_is run b f.0 f.1 c.0 f.2).0 ∙ mine) in
-              let in_end : Contains (claims e.view) c.0 = subst (λ (x : DriverEnd). Contains (claims x.view) c.0) one f.2 in
-              ⊎_elim
-              (λ (z : (x : Claim) × Contains (claims new) x × (x.window.term ≡ c.0.window.term)). absurd (omega (arith, below z.0 z.1, z.2, c.2)))
-              (λ (z : (new.cell.term < c.0.window.term) × (c.0.window.term < 262144)). absurd (omega (arith, z.0, above.known, c.2)))
-              (drove_back new after e.view on c.0 in_end),
-        );
-        above = λ now term lo hi line there.
-            let w = won_there (driver_view run.setup e.part.number) old before to line now term lo hi there in
-            let k = did.windows.kept w.0 w.1 in
-            omega (arith, below k.0 k.1, k.2.term, w.2);
-      }
+  module _ (e : DriverEnd) (h : Contains b.drivers e) where
+    abbrev first : View
+    first = driver_view run.setup e.part.number
 
-  keeps_found : (e : DriverEnd) → Contains b.drivers e → (before : List DriverAnswer) (said : DriverSaid) (after : List DriverAnswer) (old new : View) → Drove (driver_view run.setup e.part.number) before old → DriverDid said old new → Drove new after e.view
-      → KeepsFound run e.part.number before said
-  keeps_found e h before (Led now (Won term lo hi)) after old new to did on = tt
-  keeps_found e h before (Led now (Beaten found)) after old new to did on = by_another e h before (Led now (Beaten found)) after old new to did on found did.told
-  keeps_found e h before (Led now (LeadLost found)) after old new to did on = by_another e h before (Led now (LeadLost found)) after old new to did on found did.told
-  keeps_found e h before (Led now TermsSpent) after old new to did on = tt
-  keeps_found e h before (Led now LeadPast) after old new to did on = tt
-  keeps_found e h before (Ticked now (Moved next hi)) after old new to did on = tt
-  keeps_found e h before (Ticked now Idle) after old new to did on = tt
-  keeps_found e h before (Ticked now (TickLost found)) after old new to did on = by_another e h before (Ticked now (TickLost found)) after old new to did on found did.told.1
-  keeps_found e h before (Ticked now TickPast) after old new to did on = tt
-  keeps_found e h before (Ticked now NotLeading) after old new to did on = tt
-  keeps_found e h before (Resigned true) after old new to did on = tt
-  keeps_found e h before (Resigned false) after old new to did on = tt
+    -- a driver's terms once it had given these answers
+    had_claimed : (answers : List DriverAnswer) (new : View) → Drove first answers new → (after : List DriverAnswer) → Drove new after e.view → HadClaimed run e.part.number answers (terms new)
+    had_claimed answers new to after on =
+        let t = drove_terms first answers new to in
+        record {
+          claimed = subst (ClaimedBy answers) (sym t.grown) t.claimed;
+          rise = subst (IsRisingBy (λ (term : ℕ). term)) (sym t.grown) t.rise;
+          own = All-map (λ term. (w : Window) × Contains run.windows w × (w.driver ≡ e.part.number) × (w.term ≡ term)) (λ (c : Claim). c.window.term) (claims new)
+              (All-weaker (Contains (claims new)) (λ (c : Claim). (w : Window) × Contains run.windows w × (w.driver ≡ e.part.number) × (w.term ≡ c.window.term))
+              (λ c there. let k = drove_kept new after e.view on c there in (k.0.window, window_in run b k.0 (claim_in run b e h k.0 k.1), (claim_is run b e h k.0 k.1).0, k.2.term))
+              (claims new) (All-contains_itself (claims new)));
+        }
+
+    by_another : (before : List DriverAnswer) (a : DriverAnswer) (after : List DriverAnswer) (old new : View) → Drove first before old → DriverDid a.said old new → Drove new after e.view
+        → (found : CellWord) → IsFoundAbove found new → IsByAnother run e.part.number (before ++ a ∷ []) found
+    by_another before a after old new to did on found above =
+        let known = b.unites.cells e.view (to_map (λ (x : DriverEnd). x.view) b.drivers e h) in
+        let own : (x : Claim) → Contains (claims new) x → x.window.driver ≡ new.driver = λ x z. did.windows.own (λ y q. drove_own first before old to (λ u w. in_nil u w) y q ∙ sym (drove_driver first before old to)) x z ∙ sym did.driver in
+        let opening : run.setup.cell.term < found.term = omega (arith, above.higher.0, ap (λ (x : CellWord). x.term) (did.opening ∙ drove_opening first before old to)) in
+        let below : (x : Claim) → Contains (claims new) x → x.window.term < found.term = λ x z. All-contains (λ (c : Claim). c.window.driver ≡ new.driver → c.window.term < found.term) (claims new) x above.higher.1 z (own x z) in
+        let high : found.term ≤ (the_history run b).newest.window.term = omega (arith, above.known, (drove_cells new after e.view on).0, known.0, b.gathered.a.known.0) in
+        let c = has_term run b found.term (omega (arith, opening)) high in
+        let made = later_made run b c.0 c.1 (omega (arith, opening, c.2)) in
+        record {
+          window = c.0.window;
+          there = window_in run b c.0 c.1;
+          term_is = c.2;
+          another = (
+            made,
+            λ (mine : c.0.window.driver ≡ e.part.number).
+                let f = driver_of_claim run b c.0 c.1 made in
+                let one : f.0 ≡ e = once (λ (x : DriverEnd). x.part.number) b.drivers b.drivers_once f.0 e f.1 h (sym (claim_is run b f.0 f.1 c.0 f.2).0 ∙ mine) in
+                let in_end : Contains (claims e.view) c.0 = subst (λ (x : DriverEnd). Contains (claims x.view) c.0) one f.2 in
+                ⊎_elim
+                (λ (z : (x : Claim) × Contains (claims new) x × (x.window.term ≡ c.0.window.term)). absurd (omega (arith, below z.0 z.1, z.2, c.2)))
+                (λ (z : (new.cell.term < c.0.window.term) × (c.0.window.term < 262144)). absurd (omega (arith, z.0, above.known, c.2)))
+                (drove_back new after e.view on c.0 in_end),
+          );
+          terms = terms new;
+          claimed = had_claimed (before ++ a ∷ []) new (drove_push first before old to a new did) after on;
+          above = All-map (λ term. term < found.term) (λ (c : Claim). c.window.term) (claims new) (All-weaker (Contains (claims new)) (λ (c : Claim). c.window.term < found.term) below (claims new) (All-contains_itself (claims new)));
+        }
+
+    keeps_found : (before : List DriverAnswer) (a : DriverAnswer) (after : List DriverAnswer) (old new : View) → Drove first before old → DriverDid a.said old new → Drove new after e.view → KeepsFound run e.part.number (before ++ a ∷ []) a.said
+    keeps_found before a after old new to did on = by_said a.said did.told
+      where
+        by_said : (said : DriverSaid) → DriverTold said old new → KeepsFound run e.part.number (before ++ a ∷ []) said
+        by_said (Led now (Won term lo hi)) told = tt
+        by_said (Led now (Beaten found)) told = by_another before a after old new to did on found told
+        by_said (Led now (LeadLost found)) told = by_another before a after old new to did on found told
+        by_said (Led now TermsSpent) told = tt
+        by_said (Led now LeadPast) told = tt
+        by_said (Ticked now (Moved next hi)) told = tt
+        by_said (Ticked now Idle) told = tt
+        by_said (Ticked now (TickLost found)) told = by_another before a after old new to did on found told.1
+        by_said (Ticked now TickPast) told = tt
+        by_said (Ticked now NotLeading) told = tt
+        by_said (Resigned held) told = tt
 
   -- WHAT A CLIENT LOOKED UP
   looked : (e : ClientEnd) → Contains b.clients e → (after : List ClientAnswer) (old new : Client) (d word : ℕ) → Drew new after e.last → HasLooked d word old.view new.view → Looked (the_history run b) (record { client = old.view.client; driver = d; word = word; seen = old.view.seen })
@@ -184,7 +185,7 @@ pub keep_terms : (run : Run) → CameBack run → KeepTerms run
 keep_terms run b = record {
   found = λ part h before a after is. let e = driver_end run b part h in
       let s = driver_at run b e.0 e.1 before a after (ap (λ (p : DriverPart). p.answers) e.2 ∙ is) in
-      subst (λ d. KeepsFound run d before a.said) (ap (λ (p : DriverPart). p.number) e.2) (keeps_found run b e.0 e.1 before a.said after s.old s.new s.to s.did s.on);
+      subst (λ d. KeepsFound run d (before ++ a ∷ []) a.said) (ap (λ (p : DriverPart). p.number) e.2) (keeps_found run b e.0 e.1 before a after s.old s.new s.to s.did s.on);
   looks = λ part h before a after is. let e = client_end run b part h in
       let s = client_at run b e.0 e.1 before a after (ap (λ (p : ClientPart). p.answers) e.2 ∙ is) in
       keeps_looks run b e.0 e.1 before a.said after s.old s.new s.to (pass_kept a.said s.old.view s.new.view s.did.pass).told s.on;
