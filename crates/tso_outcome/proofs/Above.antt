@@ -1,12 +1,11 @@
 -- The batches of a run: those answered are those of the ledger, they lie apart, and each is above all that its client had seen.
-use Rattle.std.proofs.Common.{◌≡◌, ◌≢◌, ℕ, zero, suc, ◌+◌, ◌-◌, ◌<◌, ◌≤◌, ◌⊎◌, eqb, cond, List, [], ◌∷◌, ◌++◌, sym, refl, ap, ◌∙◌, subst, inl, inr, ⊎_elim, arith}
-use Rattle.std.specs.Prelude.{Contains, map, Result, Ok, Err, Option, Some, None, All, AllPairs}
-use Rattle.std.proofs.lemmas.List.Elements.{All-contains, All-weaker, All-nil, All-cons, All-head, All-tail, All-contains_itself}
+use Rattle.std.proofs.Common.{◌≡◌, ℕ, ◌<◌, ◌≤◌, ◌⊎◌, List, [], ◌∷◌, ◌++◌, sym, refl, ap, ◌∙◌, subst, inl, inr, ⊎_elim, arith}
+use Rattle.std.specs.Prelude.{Contains, map, Ok, Err, All, AllPairs}
+use Rattle.std.proofs.lemmas.List.Elements.{All-weaker, All-head, All-tail, All-contains_itself}
 use Rattle.std.proofs.lemmas.List.Kept.{AllPairs-cons}
 use mathlib.Core.Logic.{dite}
-use native.Mathlib.Decide.{ℕ_discrete, dec_le}
+use native.Mathlib.Decide.{dec_le}
 use Rattle.pd_types.specs.declared.oracle.Batch.{Batch}
-use Rattle.pd_types.specs.declared.oracle.Seen.{Seen}
 use Rattle.pd_types.specs.Batch.{first_of}
 use Rattle.tso_model.specs.declared.entries.Claim.{Claim}
 use Rattle.tso_model.specs.declared.entries.Grant.{Grant}
@@ -14,22 +13,22 @@ use Rattle.tso_model.specs.declared.view.View.{View}
 use Rattle.tso_model.specs.Lists.{total}
 use Rattle.tso_model.specs.Words.{Inside, opening_claim}
 use Rattle.tso_model.specs.Moves.{nothing_seen, client_view}
-use Rattle.tso_model.specs.Ledger.{IsDrawList, IsWindowList, Climb, IsRisingBy}
-use Rattle.tso_model.proofs.Basics.{in_head, in_tail, in_cons, in_nil, weight_le}
+use Rattle.tso_model.specs.Ledger.{IsDrawList, IsWindowList, Climb}
+use Rattle.tso_model.proofs.Basics.{in_head, in_tail, in_cons, in_nil}
 use Rattle.tso_model.proofs.Sums.{total-append}
 use Rattle.tso_outcome.specs.declared.said.ClientSaid.{ClientSaid}
 use Rattle.tso_outcome.specs.declared.said.ClientAnswer.{ClientAnswer}
 use Rattle.tso_outcome.specs.declared.said.ClientSaid.TheVariants.{Took, Told, Heard}
-use Rattle.tso_outcome.specs.Clients.{Client, Drew, got, got_by, seen_by}
+use Rattle.tso_outcome.specs.Clients.{Drew, got_by, seen_by}
 use Rattle.tso_outcome.proofs.Passes.{pass_kept, ClientTold, grant_of}
 use Rattle.tso_model.specs.OneHistory.{IsAbove}
 use Rattle.tso_outcome.specs.Runs.{Run, ClientPart, all_got}
 use Rattle.tso_model.specs.OneHistory.{IsBelow, AreApart}
-use Rattle.tso_outcome.specs.Batches.{AreBatches, KeepsAbove, KeepBatches}
+use Rattle.tso_outcome.specs.Batches.{KeepsAbove, KeepBatches}
 use Rattle.tso_outcome.proofs.Ended.{CameBack}
 use Rattle.tso_outcome.specs.Ends.{ClientEnd}
 use Rattle.tso_outcome.proofs.Codes.{hit, hit-same, hit-is, stands, weighs, batch_code, batch_one}
-use Rattle.tso_outcome.proofs.Chains.{ClientSplit, drew_split, drew_client, drew_seen, drew_grants}
+use Rattle.tso_outcome.proofs.Chains.{ClientSplit, drew_split, drew_seen, drew_grants}
 
 -- LISTS THAT CLIMB
 -- the batches have a count, which is at most the last

@@ -1,18 +1,14 @@
 -- Each `again` has its cause.
-use Rattle.std.proofs.Common.{◌≡◌, ◌≢◌, ℕ, zero, suc, ◌+◌, ◌*◌, ◌<◌, ◌≤◌, ◌⊎◌, eqb, cond, Bool, true, false, List, [], ◌∷◌, ◌++◌, sym, refl, ap, ◌∙◌, subst, inl, inr, ⊎_elim, arith, max}
-use Rattle.std.specs.Prelude.{Contains, map, Option, Some, None, All, Result, Ok, Err}
+use Rattle.std.proofs.Common.{◌≡◌, ℕ, ◌<◌, ◌≤◌, true, false, List, [], sym, refl, ap, ◌∙◌, subst, ⊎_elim, arith}
+use Rattle.std.specs.Prelude.{Contains, None, Ok, Err}
 use Rattle.std.proofs.lemmas.List.Elements.{All-contains}
-use Rattle.pd_types.specs.declared.oracle.Window.{Window}
 use Rattle.tso_model.specs.declared.entries.Claim.{Claim}
-use Rattle.tso_model.specs.declared.entries.Published.{Published}
 use Rattle.tso_model.specs.declared.entries.Refusal.{Refusal}
-use Rattle.tso_model.specs.declared.entries.Added.{Added}
 use Rattle.tso_model.specs.declared.view.View.{View}
-use Rattle.tso_model.specs.declared.view.Setup.{Setup}
-use Rattle.tso_model.specs.Words.{IsOpen, packed, passes, opening_claim, window, claim}
-use Rattle.tso_model.specs.History.{History, claims, Extends, added_at, added_by, added_else}
+use Rattle.tso_model.specs.Words.{IsOpen, packed, passes, window, claim}
+use Rattle.tso_model.specs.History.{claims, Extends, added_by}
 use Rattle.tso_model.specs.Sound.{Bounded}
-use Rattle.tso_model.proofs.Basics.{by_bool, by_eq, in_head, in_tail, in_cons, in_nil, added_parts, open_driver}
+use Rattle.tso_model.proofs.Basics.{added_parts}
 use Rattle.tso_driver.specs.declared.said.DriverSaid.{DriverSaid}
 use Rattle.tso_outcome.specs.declared.said.ClientSaid.{ClientSaid}
 use Rattle.tso_outcome.specs.declared.said.DriverAnswer.{DriverAnswer}
@@ -23,17 +19,16 @@ use Rattle.tso_driver.specs.declared.reply.LeadReply.TheVariants.{Won, Beaten, L
 use Rattle.tso_driver.specs.declared.reply.TickReply.TheVariants.{Moved, Idle, Lost as TickLost, ClockRange as TickPast, NotLeading}
 use Rattle.tso_client.specs.declared.draw.DrawFault.TheVariants.{NotLeader, Stale, Again}
 use Rattle.tso_outcome.specs.Drives.{Drove, held_by, raised}
-use Rattle.tso_driver.specs.Driving.{DriverDid, DriverTold, ClaimsGrow, Publishes}
-use Rattle.tso_board.specs.Told.{holding}
-use Rattle.tso_outcome.specs.Clients.{Client, Drew, ClientDid, asked_by}
+use Rattle.tso_driver.specs.Driving.{DriverTold, ClaimsGrow, Publishes}
+use Rattle.tso_outcome.specs.Clients.{Client, Drew, asked_by}
 use Rattle.tso_outcome.proofs.Passes.{pass_kept, ClientTold}
-use Rattle.tso_outcome.specs.Runs.{Run, DriverPart, ClientPart, Place, asked_of_others}
+use Rattle.tso_outcome.specs.Runs.{Run, ClientPart}
 use Rattle.tso_outcome.specs.Refusals.{GaveEnd, IsAgain, KeepsAgain, KeepRefusals}
 use Rattle.tso_outcome.proofs.Ended.{CameBack}
 use Rattle.tso_outcome.specs.Ends.{DriverEnd, ClientEnd}
 use Rattle.tso_model.specs.Moves.{driver_view, client_view}
-use Rattle.tso_outcome.proofs.Chains.{ClientSplit, drew_client, drew_asked, drew_refusals}
-use Rattle.tso_outcome.proofs.Drives.{DriverSplit, drove_split, drove_kept, drove_claimed, IsClaimed, WasPublished}
+use Rattle.tso_outcome.proofs.Chains.{drew_client, drew_asked, drew_refusals}
+use Rattle.tso_outcome.proofs.Drives.{drove_split, drove_kept, drove_claimed, IsClaimed, WasPublished}
 use Rattle.tso_outcome.proofs.Above.{client_end, client_at, to_map}
 use Rattle.tso_outcome.proofs.Known.{open_made, once, one_a_term, the_history, claims_stand, driver_of_claim, claim_in, claim_is, driver_of_word, driver_of_start, refusal_in, others_added}
 

@@ -1,35 +1,20 @@
 -- Calls in a row: the split of a list of answers at one of them, and what all calls together do.
-use Rattle.std.proofs.Common.{◌≡◌, ◌≢◌, ℕ, zero, suc, ◌+◌, ◌<◌, ◌≤◌, ◌⊎◌, eqb, cond, Bool, true, false, List, [], ◌∷◌, ◌++◌, sym, refl, ap, ◌∙◌, subst, inl, inr, ⊎_elim, arith, append_assoc}
+use Rattle.std.proofs.Common.{◌≡◌, ℕ, ◌+◌, ◌<◌, ◌≤◌, eqb, cond, List, [], ◌∷◌, ◌++◌, sym, refl, ap, ◌∙◌, subst, ⊎_elim, arith, append_assoc}
 use Rattle.std.specs.Prelude.{Contains, map, Option, Some, None, Result, Ok, Err}
-use Rattle.std.proofs.lemmas.List.Elements.{Contains-push_cases, Contains-append_cases}
+use Rattle.std.proofs.lemmas.List.Elements.{Contains-push_cases}
 use Rattle.pd_types.specs.declared.oracle.Batch.{Batch}
 use Rattle.pd_types.specs.declared.oracle.Seen.{Seen}
-use Rattle.pd_types.specs.declared.oracle.Window.{Window}
-use Rattle.pd_types.specs.Batch.{first_of}
-use Rattle.tso_model.specs.declared.entries.Claim.{Claim}
-use Rattle.tso_model.specs.declared.entries.Published.{Published}
 use Rattle.tso_model.specs.declared.entries.Added.{Added}
 use Rattle.tso_model.specs.declared.view.View.{View}
-use Rattle.tso_model.specs.declared.view.Setup.{Setup}
-use Rattle.tso_model.specs.Lists.{total}
-use Rattle.tso_model.specs.Words.{IsOpen}
-use Rattle.tso_model.specs.History.{claims, Extends, added_at}
+use Rattle.tso_model.specs.History.{added_at}
 use Rattle.tso_model.specs.Moves.{greater}
-use Rattle.tso_model.proofs.Basics.{by_bool, by_eq, by_lt, in_head, in_tail, in_cons, in_nil}
+use Rattle.tso_model.proofs.Basics.{by_lt}
 use Rattle.tso_model.proofs.Sums.{total-append}
-use Rattle.tso_driver.specs.declared.said.DriverSaid.{DriverSaid}
 use Rattle.tso_outcome.specs.declared.said.ClientSaid.{ClientSaid}
-use Rattle.tso_outcome.specs.declared.said.DriverAnswer.{DriverAnswer}
 use Rattle.tso_outcome.specs.declared.said.ClientAnswer.{ClientAnswer}
-use Rattle.tso_driver.specs.declared.said.DriverSaid.TheVariants.{Led, Ticked, Resigned}
 use Rattle.tso_outcome.specs.declared.said.ClientSaid.TheVariants.{Took, Told, Heard}
-use Rattle.tso_driver.specs.declared.reply.LeadReply.TheVariants.{Won, Beaten, Lost as LeadLost, TermsSpent, ClockRange as LeadPast}
-use Rattle.tso_driver.specs.declared.reply.TickReply.TheVariants.{Moved, Idle, Lost as TickLost, ClockRange as TickPast, NotLeading}
 use Rattle.tso_client.specs.declared.draw.DrawFault.TheVariants.{NotLeader, Stale, Again}
-use Rattle.tso_client.specs.declared.entry.PostEntry.{PostEntry}
-use Rattle.tso_outcome.specs.Drives.{Drove, held_by, raised}
-use Rattle.tso_driver.specs.Driving.{DriverDid, Keeps, held_after, raises, start_at, Publishes}
-use Rattle.tso_board.specs.Told.{holding}
+use Rattle.tso_driver.specs.Driving.{Keeps}
 use Rattle.tso_outcome.specs.Clients.{Client, Drew, ClientDid, seen_after, seen_by, got, got_by, asked, asked_by, posts, posted}
 use Rattle.tso_outcome.proofs.Passes.{pass_kept, ClientTold, grant_of, AddsAtMost}
 use Rattle.tso_client.specs.Draws.{seen_of}

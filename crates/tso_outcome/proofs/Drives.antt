@@ -1,18 +1,16 @@
 -- What all calls of a driver together do to what it knows.
-use Rattle.std.proofs.Common.{◌≡◌, ◌≢◌, ℕ, zero, suc, ◌+◌, ◌*◌, ◌<◌, ◌≤◌, ◌⊎◌, eqb, cond, Bool, true, false, List, [], ◌∷◌, ◌++◌, sym, refl, ap, ◌∙◌, subst, inl, inr, ⊎_elim, arith, append_assoc, max}
+use Rattle.std.proofs.Common.{◌≡◌, ℕ, ◌<◌, ◌≤◌, ◌⊎◌, cond, true, false, List, [], ◌∷◌, ◌++◌, sym, refl, ap, ◌∙◌, subst, inl, inr, ⊎_elim, arith, append_assoc, max}
 use Rattle.std.specs.Prelude.{Contains, map, Option, Some, None, option_to_list, All}
-use Rattle.std.proofs.lemmas.List.Elements.{Contains-push_cases, Contains-append_cases, All-cons, All-nil, All-weaker}
+use Rattle.std.proofs.lemmas.List.Elements.{All-cons, All-nil, All-weaker}
 use Rattle.pd_types.specs.declared.oracle.Window.{Window}
 use Rattle.tso_model.specs.declared.entries.Claim.{Claim}
-use Rattle.tso_model.specs.declared.entries.Start.{Start}
 use Rattle.tso_model.specs.declared.entries.Published.{Published}
 use Rattle.tso_model.specs.declared.view.View.{View}
-use Rattle.tso_model.specs.declared.view.Setup.{Setup}
 use Rattle.tso_model.specs.Words.{IsOpen, window, claim}
 use Rattle.tso_model.specs.History.{claims, Extends, greatest}
 use Rattle.tso_model.specs.Ledger.{IsRisingBy}
 use Rattle.tso_outcome.specs.Terms.{ClaimedBy}
-use Rattle.tso_model.proofs.Basics.{by_bool, by_eq, in_head, in_tail, in_cons, in_nil, greatest-push}
+use Rattle.tso_model.proofs.Basics.{by_eq}
 use Rattle.tso_driver.specs.declared.said.DriverSaid.{DriverSaid}
 use Rattle.tso_outcome.specs.declared.said.DriverAnswer.{DriverAnswer}
 use Rattle.tso_driver.specs.declared.said.DriverSaid.TheVariants.{Led, Ticked, Resigned}
@@ -20,7 +18,7 @@ use Rattle.tso_driver.specs.declared.reply.LeadReply.TheVariants.{Won, Beaten, L
 use Rattle.tso_driver.specs.declared.reply.TickReply.TheVariants.{Moved, Idle, Lost as TickLost, ClockRange as TickPast, NotLeading}
 use Rattle.tso_outcome.specs.Drives.{Drove, held_by, raised}
 use Rattle.pd_types.specs.Numbers.{greatest_of}
-use Rattle.tso_driver.specs.Driving.{DriverDid, DriverTold, ClaimsGrow, TermsGrow, ClaimsTerm, terms, Keeps, held_after, moved_to, raises, start_at, Publishes}
+use Rattle.tso_driver.specs.Driving.{DriverDid, DriverTold, ClaimsGrow, terms, Keeps, held_after, moved_to, raises, start_at, Publishes}
 use Rattle.tso_board.specs.Told.{holding}
 use Rattle.tso_outcome.proofs.Chains.{map-append}
 

@@ -1,7 +1,6 @@
 -- What the runner knows makes the run a lawful one.
-use Rattle.std.proofs.Common.{◌≡◌, ℕ, ◌+◌, ◌<◌, ◌≤◌, List, subst, arith}
-use Rattle.std.specs.Prelude.{Contains, map}
-use Rattle.tso_model.specs.Moves.{numbers_from}
+use Rattle.std.proofs.Common.{subst}
+use Rattle.std.specs.Prelude.{Contains}
 use Rattle.tso_model.specs.Words.{opening_claim}
 use Rattle.tso_board.proofs.Risings.{windows_rise}
 use Rattle.tso_outcome.specs.Runs.{Run}

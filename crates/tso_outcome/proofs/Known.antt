@@ -1,10 +1,9 @@
 -- What the gathered ledger tells of each worker, and each worker of the ledger.
-use Rattle.std.proofs.Common.{◌≡◌, ◌≢◌, ℕ, zero, suc, ◌+◌, ◌*◌, ◌<◌, ◌≤◌, ◌⊎◌, eqb, cond, Bool, true, false, List, [], ◌∷◌, ◌++◌, sym, refl, ap, ◌∙◌, subst, inl, inr, ⊎_elim, arith, max}
-use Rattle.std.specs.Prelude.{Contains, map, Option, Some, None, All}
+use Rattle.std.proofs.Common.{◌≡◌, ℕ, ◌+◌, ◌<◌, ◌≤◌, eqb, cond, List, [], ◌∷◌, sym, refl, ap, ◌∙◌, subst, ⊎_elim, arith}
+use Rattle.std.specs.Prelude.{Contains, map, None}
 use Rattle.std.proofs.lemmas.List.Elements.{All-contains}
 use mathlib.Core.Logic.{dite}
-use native.Mathlib.Decide.{ℕ_discrete, dec_le}
-use Rattle.pd_types.specs.declared.oracle.Window.{Window}
+use native.Mathlib.Decide.{dec_le}
 use Rattle.tso_model.specs.declared.entries.Claim.{Claim}
 use Rattle.tso_model.specs.declared.entries.Start.{Start}
 use Rattle.tso_model.specs.declared.entries.Found.{Found}
@@ -13,26 +12,22 @@ use Rattle.tso_model.specs.declared.entries.Look.{Look}
 use Rattle.tso_model.specs.declared.entries.Refusal.{Refusal}
 use Rattle.tso_model.specs.declared.entries.Added.{Added}
 use Rattle.tso_model.specs.declared.view.View.{View}
-use Rattle.tso_model.specs.declared.view.Setup.{Setup}
 use Rattle.tso_model.specs.Lists.{total}
 use Rattle.tso_model.specs.Words.{IsOpen, opening_claim, Follows, last_end}
-use Rattle.tso_model.specs.History.{History, Stands, claims, added_at, added_by, added_else}
+use Rattle.tso_model.specs.History.{History, Stands, claims, added_at, added_else}
 use Rattle.tso_model.specs.Ledger.{IsRisingBy, back, Rise, IsWindowList}
 use Rattle.tso_model.proofs.Basics.{by_bool, by_eq, in_head, in_tail, in_cons, in_nil, weight_le, added_parts}
 use Rattle.tso_model.proofs.Sums.{total-append}
-use Rattle.tso_driver.specs.declared.said.DriverSaid.{DriverSaid}
-use Rattle.tso_outcome.specs.declared.said.DriverAnswer.{DriverAnswer}
-use Rattle.tso_outcome.specs.declared.said.ClientAnswer.{ClientAnswer}
-use Rattle.tso_outcome.specs.Drives.{Drove, raised}
-use Rattle.tso_driver.specs.Driving.{DriverDid, start_at}
-use Rattle.tso_outcome.specs.Clients.{Client, Drew, asked_by}
-use Rattle.tso_outcome.specs.Runs.{Run, DriverPart, ClientPart, asked_of_all, asked_of_others}
+use Rattle.tso_outcome.specs.Drives.{raised}
+use Rattle.tso_driver.specs.Driving.{start_at}
+use Rattle.tso_outcome.specs.Clients.{asked_by}
+use Rattle.tso_outcome.specs.Runs.{Run, ClientPart, asked_of_all, asked_of_others}
 use Rattle.tso_outcome.proofs.Ended.{CameBack, AreDistinctBy}
 use Rattle.tso_outcome.specs.Ends.{DriverEnd, ClientEnd}
 use Rattle.tso_model.specs.Moves.{driver_view, client_view}
-use Rattle.tso_outcome.proofs.Codes.{hit, hit-same, hit-is, stands, weighs, located, brought, moved, start_code, start_one, found_code, found_one, published_code, published_one, look_code, look_one, refusal_code, refusal_one, claim_code, claim_one}
-use Rattle.tso_outcome.proofs.Chains.{drew_client, drew_asked, drew_own}
-use Rattle.tso_outcome.proofs.Drives.{DriverSplit, drove_split, drove_starts, drove_back, drove_own, WasPublished, drove_published}
+use Rattle.tso_outcome.proofs.Codes.{hit, hit-is, stands, weighs, located, brought, moved, start_code, start_one, found_code, found_one, published_code, published_one, look_code, look_one, refusal_code, refusal_one, claim_code, claim_one}
+use Rattle.tso_outcome.proofs.Chains.{drew_asked, drew_own}
+use Rattle.tso_outcome.proofs.Drives.{drove_starts, drove_back, drove_own, WasPublished, drove_published}
 use Rattle.tso_outcome.proofs.Above.{in_map, to_map, lists_of}
 
 back_total : {A : Type 0} (f : A → ℕ) (xs : List A) → total f (back xs) ≡ total f xs

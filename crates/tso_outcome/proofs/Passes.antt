@@ -1,12 +1,9 @@
 -- What a client's call does to its pass, field by field.
-use Rattle.std.proofs.Common.{◌≡◌, ◌≢◌, ℕ, ◌+◌, ◌%◌, ◌<◌, ◌≤◌, ◌⊎◌, List, [], ◌∷◌, ◌++◌, sym, refl, ap, ◌∙◌, subst, inl, inr, ⊎_elim, arith}
-use Rattle.std.specs.Prelude.{Contains, map, Option, Some, None, Result, Ok, Err}
+use Rattle.std.proofs.Common.{◌≡◌, ◌≢◌, ℕ, ◌%◌, ◌<◌, ◌≤◌, ◌⊎◌, List, [], ◌∷◌, ◌++◌, sym, refl, ap, ◌∙◌, subst, inr, arith}
+use Rattle.std.specs.Prelude.{Contains, map, Some, None, Ok, Err}
 use Rattle.std.proofs.lemmas.List.Elements.{Contains-append_left, Contains-append_right}
 use Rattle.pd_types.specs.declared.oracle.Batch.{Batch}
-use Rattle.pd_types.specs.declared.oracle.Seen.{Seen}
 use Rattle.tso_model.specs.declared.entries.Grant.{Grant}
-use Rattle.tso_model.specs.declared.entries.Look.{Look}
-use Rattle.tso_model.specs.declared.entries.Refusal.{Refusal}
 use Rattle.tso_model.specs.declared.view.View.{View}
 use Rattle.tso_model.specs.History.{added_by}
 use Rattle.tso_model.specs.Moves.{greater}

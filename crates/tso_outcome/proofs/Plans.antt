@@ -1,35 +1,31 @@
 -- Leads and ticks kept the moment's plan.
-use Rattle.std.proofs.Common.{◌≡◌, ◌≢◌, ℕ, zero, suc, ◌+◌, ◌*◌, ◌^◌, ◌<◌, ◌≤◌, ◌⊎◌, eqb, cond, Bool, true, false, List, [], ◌∷◌, ◌++◌, sym, refl, ap, ◌∙◌, subst, inl, inr, ⊎_elim, arith, max}
-use Rattle.std.specs.Prelude.{Contains, map, Option, Some, None, All}
+use Rattle.std.proofs.Common.{◌≡◌, ℕ, ◌+◌, ◌^◌, ◌≤◌, true, false, List, sym, ap, ◌∙◌, subst, inl, inr, arith}
+use Rattle.std.specs.Prelude.{Contains}
 use Rattle.std.proofs.lemmas.List.Elements.{All-contains}
 use Rattle.std.proofs.lemmas.Bool.{leb-true}
 use mathlib.Core.Logic.{dite}
 use native.Mathlib.Decide.{dec_le}
-use Rattle.pd_types.specs.declared.oracle.Window.{Window}
 use Rattle.tso_model.specs.declared.entries.Claim.{Claim}
-use Rattle.tso_model.specs.declared.entries.Start.{Start}
 use Rattle.tso_model.specs.declared.entries.Found.{Found}
 use Rattle.tso_model.specs.declared.view.View.{View}
-use Rattle.tso_model.specs.declared.view.Setup.{Setup}
-use Rattle.tso_model.specs.Words.{IsOpen, window, claim}
-use Rattle.tso_model.specs.History.{claims, Extends, greatest, added_at}
-use Rattle.tso_model.specs.Plan.{lead_next, past_clock, end_of}
+use Rattle.tso_model.specs.Words.{window, claim}
+use Rattle.tso_model.specs.History.{greatest, added_at}
+use Rattle.tso_model.specs.Plan.{lead_next, end_of}
 use Rattle.tso_driver.specs.declared.said.DriverSaid.{DriverSaid}
 use Rattle.tso_outcome.specs.declared.said.DriverAnswer.{DriverAnswer}
 use Rattle.tso_driver.specs.declared.said.DriverSaid.TheVariants.{Led, Ticked, Resigned}
 use Rattle.tso_driver.specs.declared.reply.LeadReply.TheVariants.{Won, Beaten, Lost as LeadLost, TermsSpent, ClockRange as LeadPast}
 use Rattle.tso_driver.specs.declared.reply.TickReply.{TickReply}
 use Rattle.tso_driver.specs.declared.reply.TickReply.TheVariants.{Moved, Idle, Lost as TickLost, ClockRange as TickPast, NotLeading}
-use Rattle.tso_outcome.specs.Drives.{Drove, held_by, raised}
+use Rattle.tso_outcome.specs.Drives.{Drove, raised}
 use Rattle.pd_types.specs.Numbers.{greatest_of}
-use Rattle.tso_driver.specs.Driving.{DriverDid, DriverTold, HasTicked, start_at}
-use Rattle.tso_board.specs.Told.{holding}
+use Rattle.tso_driver.specs.Driving.{DriverDid, DriverTold, HasTicked}
 use Rattle.tso_outcome.specs.Runs.{Run, DriverPart}
 use Rattle.tso_outcome.specs.Windows.{IsWon, IsPlanned, KeepsPlan, KeepWindows}
 use Rattle.tso_outcome.proofs.Ended.{CameBack}
 use Rattle.tso_outcome.specs.Ends.{DriverEnd}
 use Rattle.tso_model.specs.Moves.{driver_view}
-use Rattle.tso_outcome.proofs.Drives.{DriverSplit, drove_driver, drove_cells, drove_kept, drove_starts, drove_founds, drove_holding, greatest_starts}
+use Rattle.tso_outcome.proofs.Drives.{drove_driver, drove_cells, drove_kept, drove_starts, drove_founds, drove_holding, greatest_starts}
 use Rattle.tso_outcome.proofs.Above.{to_map, lists_of}
 use Rattle.tso_outcome.proofs.Known.{the_history, claim_in, claim_is, window_in, before_it, has_term, newest_ends, found_in, all_added}
 use Rattle.tso_outcome.proofs.Terms.{driver_end, driver_at}

@@ -1,6 +1,6 @@
 -- `beaten` and `lost` name another's term, and `stale` and `not-leader` have their cause.
-use Rattle.std.proofs.Common.{◌≡◌, ◌≢◌, ℕ, zero, suc, ◌+◌, ◌*◌, ◌%◌, ◌/◌, ◌<◌, ◌≤◌, ◌⊎◌, eqb, cond, Bool, true, false, List, [], ◌∷◌, ◌++◌, sym, refl, ap, ◌∙◌, subst, inl, inr, ⊎_elim, arith, max}
-use Rattle.std.specs.Prelude.{Contains, map, Option, Some, None, All, Result, Ok, Err}
+use Rattle.std.proofs.Common.{◌≡◌, ◌≢◌, ℕ, ◌%◌, ◌/◌, ◌<◌, ◌≤◌, true, false, List, [], ◌∷◌, ◌++◌, sym, refl, ap, ◌∙◌, subst, ⊎_elim, arith}
+use Rattle.std.specs.Prelude.{Contains, None, Ok, Err}
 use Rattle.std.proofs.lemmas.List.Elements.{All-contains, All-contains_itself, All-map, All-weaker, Contains-append_right}
 use Rattle.pd_types.specs.declared.oracle.CellWord.{CellWord}
 use Rattle.pd_types.specs.declared.oracle.Seen.{Seen}
@@ -9,13 +9,11 @@ use Rattle.tso_model.specs.declared.entries.Claim.{Claim}
 use Rattle.tso_model.specs.declared.entries.Published.{Published}
 use Rattle.tso_model.specs.declared.entries.Look.{Look}
 use Rattle.tso_model.specs.declared.view.View.{View}
-use Rattle.tso_model.specs.declared.view.Setup.{Setup}
-use Rattle.tso_model.specs.Words.{IsOpen, packed, window, claim, opening_claim}
-use Rattle.tso_model.specs.History.{History, Names, claims, Extends}
+use Rattle.tso_model.specs.History.{Names, claims}
 use Rattle.tso_model.specs.Ledger.{IsRisingBy}
 use Rattle.tso_model.specs.Moves.{nothing_seen, driver_view, client_view}
 use Rattle.tso_model.specs.Sound.{Looked}
-use Rattle.tso_model.proofs.Basics.{in_head, in_tail, in_cons, in_nil}
+use Rattle.tso_model.proofs.Basics.{in_head, in_nil}
 use Rattle.tso_driver.specs.declared.said.DriverSaid.{DriverSaid}
 use Rattle.tso_outcome.specs.declared.said.ClientSaid.{ClientSaid}
 use Rattle.tso_outcome.specs.declared.said.DriverAnswer.{DriverAnswer}
@@ -27,16 +25,15 @@ use Rattle.tso_driver.specs.declared.reply.TickReply.TheVariants.{Moved, Idle, L
 use Rattle.tso_client.specs.declared.draw.DrawFault.TheVariants.{NotLeader, Stale, Again}
 use Rattle.tso_outcome.specs.Drives.{Drove, held_by}
 use Rattle.tso_driver.specs.Driving.{DriverDid, DriverTold, IsFoundAbove, Publishes, terms}
-use Rattle.tso_board.specs.Told.{holding}
-use Rattle.tso_outcome.specs.Clients.{Client, Drew, ClientDid, seen_by, posted}
-use Rattle.tso_outcome.proofs.Passes.{pass_kept, ClientTold, HasLooked, HasStale}
+use Rattle.tso_outcome.specs.Clients.{Client, Drew, posted}
+use Rattle.tso_outcome.proofs.Passes.{pass_kept, ClientTold, HasLooked}
 use Rattle.tso_outcome.specs.Runs.{Run, DriverPart, ClientPart}
-use Rattle.tso_outcome.specs.Terms.{GivesUp, ClaimedBy, HadClaimed, IsByAnother, KeepsFound, IsStale, IsNotLeader, KeepsLooks, KeepTerms}
+use Rattle.tso_outcome.specs.Terms.{GivesUp, ClaimedBy, HadClaimed, IsByAnother, KeepsFound, KeepsLooks, KeepTerms}
 use Rattle.tso_client.specs.Posts.{entries_of}
 use Rattle.tso_outcome.proofs.Ended.{CameBack}
 use Rattle.tso_outcome.specs.Ends.{DriverEnd, ClientEnd}
-use Rattle.tso_outcome.proofs.Chains.{ClientSplit, drew_client, drew_seen, drew_looks, drew_slip}
-use Rattle.tso_outcome.proofs.Drives.{DriverSplit, drove_split, drove_opening, drove_driver, drove_cells, drove_kept, drove_back, drove_own, drove_terms, drove_claimed, IsClaimed, WasPublished}
+use Rattle.tso_outcome.proofs.Chains.{drew_seen, drew_looks, drew_slip}
+use Rattle.tso_outcome.proofs.Drives.{DriverSplit, drove_split, drove_opening, drove_driver, drove_cells, drove_kept, drove_back, drove_own, drove_terms, drove_claimed, IsClaimed}
 use Rattle.tso_outcome.proofs.Above.{client_end, client_at, in_map, to_map}
 use Rattle.tso_outcome.proofs.Known.{once, the_history, claims_stand, stand_claims, driver_of_claim, claim_in, claim_is, window_in, driver_of_word, look_in, later_made, has_term}
 

@@ -1,5 +1,5 @@
 -- What a runner knows when its workers are joined, the post is closed and the ledger is gathered.
-use Rattle.std.specs.Prelude.{◌≡◌, ℕ, List, [], map, Contains}
+use Rattle.std.specs.Prelude.{◌≡◌, List, [], map, Contains}
 use Rattle.tso_model.specs.declared.view.View.{View}
 use Rattle.tso_model.specs.Moves.{numbers_from, driver_view, client_view}
 use Rattle.tso_model.specs.Sound.{IsSetup}

@@ -1,5 +1,5 @@
 -- What of a run a reader needs to know to trust its timestamps: the headline, of the answers of all actors and the ledger's windows. It cites no step of the oracle.
-use Rattle.std.specs.Prelude.{◌≡◌, ℕ, true, List, Ok, Err, Contains}
+use Rattle.std.specs.Prelude.{◌≡◌, true, List, Ok, Err, Contains}
 use Rattle.tso_model.specs.Words.{passes}
 use Rattle.tso_model.specs.Moves.{nothing_seen}
 use Rattle.tso_model.specs.OneHistory.{IsAbove, IsOneHistory}

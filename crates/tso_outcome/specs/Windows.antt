@@ -1,5 +1,5 @@
 -- The windows of a lawful run: those of all terms, one behind the other; and leads and ticks went by the plan of their moment (PD documentation, "Timestamp Oracle"; the exact plan is own choice, that of tso_model).
-use Rattle.std.specs.Prelude.{◌≡◌, ℕ, ◌+◌, ◌≤◌, ◌⊎◌, true, false, List, ◌∷◌, map, Some, None, Contains}
+use Rattle.std.specs.Prelude.{◌≡◌, ℕ, ◌+◌, ◌≤◌, ◌⊎◌, true, false, List, map, Some, None, Contains}
 use Rattle.pd_types.specs.declared.oracle.CellWord.{CellWord}
 use Rattle.pd_types.specs.declared.oracle.Window.{Window}
 use Rattle.tso_model.specs.declared.entries.Claim.{Claim}

@@ -1,5 +1,4 @@
 use Rattle.tso_outcome.specs.Runs.{Run}
-use Rattle.tso_outcome.specs.Ends.{IsFinished}
 use Rattle.tso_outcome.specs.Lawful.{IsLawful}
 use Rattle.tso_outcome.proofs.Ended.{CameBack}
 use Rattle.tso_outcome.proofs.Above.{keep_batches}
