@@ -133,6 +133,17 @@ fn five_hundred_runs_in_any_order_are_lawful(rt: HostRuntime) -> Result<(), Fail
     Ok(())
 }
 
+// Which allocation fails is chosen from outside, by `rt try --test --fail-alloc N`.
+#[test]
+fn a_run_of_every_line_without_memory_ends_with_that_or_is_done(
+    rt: HostRuntime,
+) -> Result<(), Fail> {
+    let script = made_script(rt.alloc(), 7)?;
+    let (ended, _) = play(&rt, rt.alloc(), "run", script.as_str(), &OpenGate)?;
+    assert!(rt; ended == Status::NoMemory || ended == Status::Done);
+    Ok(())
+}
+
 // What the lines of a script made of the only driver's journal: these lines, in its order, and what the entries tell.
 #[derive(Drop)]
 struct Served<'a> {

@@ -310,12 +310,35 @@ impl<'a> Printed<'a> {
         Ok(())
     }
 
-    // The windows follow one another, each of a later term and behind the end of the one before.
+    // The last end of a driver's term that its answers tell, 0 where none does.
+    fn told_end(&self, driver: u64, term: u64) -> u64 {
+        let (mut holds, mut end) = (false, 0);
+        for one in &self.answers {
+            if one.section != DRIVERS || one.actor != driver {
+                continue;
+            }
+            match one.said.word {
+                "won" => {
+                    holds = one.said.at(1) == term;
+                    if holds {
+                        end = one.said.at(3);
+                    }
+                }
+                "moved" if holds => end = one.said.at(2),
+                _ => {}
+            }
+        }
+        end
+    }
+
+    // The windows follow one another, each of a later term and behind the end of the one before, and
+    // each ends where its driver's answers tell.
     fn windows_follow(&self) -> bool {
         let mut before = self.opened;
         for window in &self.windows {
             let (term, lo, hi) = (window.at(0), window.at(2), window.at(3));
-            if term <= before.0 || lo < before.1 || hi <= lo {
+            let told = self.told_end(window.at(1), term);
+            if term <= before.0 || lo < before.1 || hi <= lo || hi != told {
                 return false;
             }
             before = (term, hi);
@@ -417,7 +440,8 @@ impl<'a> Printed<'a> {
         true
     }
 
-    // A batch: the count and the driver that were asked for, inside a window, and above what was seen.
+    // A batch: the count and the driver that were asked for, inside a window and one millisecond, and above
+    // what was seen.
     fn got(&self, one: &Answer) -> bool {
         let (term, driver) = (one.said.at(1), one.said.at(2));
         let (first, last) = (one.said.at(3), one.said.at(4));
@@ -427,7 +451,8 @@ impl<'a> Printed<'a> {
             let (lo, hi) = (w.at(2).saturating_mul(MS), w.at(3).saturating_mul(MS));
             w.at(0) == term && w.at(1) == driver && lo < first && last < hi
         });
-        asked && inside && first <= last && term >= one.seen.0 && first > one.seen.1
+        let short = first <= last && first / MS == last / MS;
+        asked && inside && short && term >= one.seen.0 && first > one.seen.1
     }
 
     // A start of the driver, in the window from `lo` on or a later one, that explains the cursor `at`.
