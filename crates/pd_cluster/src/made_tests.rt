@@ -29,7 +29,7 @@ check 1 1000 2
 
 // The forms of made lines: of the drivers D, the clients C and E, the stores S, the regions R of keys K with a peer P, the counts N and
 // the versions V, at the moment M.
-const FORMS: [&str; 24] = [
+const FORMS: [&str; 32] = [
     "lead D M",
     "lead D M",
     "tick D M",
@@ -52,7 +52,15 @@ const FORMS: [&str; 24] = [
     "schedule D M",
     "rule D M {\"group_id\":\"pd\",\"id\":\"x\",\"role\":\"voter\",\"count\":1}",
     "unrule D M pd x",
+    "unrule D M pd default",
+    "schedule D M",
     "ctl D M operator add add-peer R S",
+    "ctl D M operator remove R",
+    "ctl D M region R",
+    "ctl D M store",
+    "ctl D M store delete S",
+    "ctl D M scheduler show",
+    "ctl D M scheduler remove balance-leader-scheduler",
     "ctl D M member leader resign",
 ];
 
@@ -93,10 +101,10 @@ fn push_made(text: &mut String, form: &str, x: u64, line: u64, drivers: u64) -> 
 fn push_all_made(text: &mut String, x: u64, drivers: u64) -> Result<(), Fail> {
     let stride = STRIDES[(x / 1_099_511_627_776 % 8) as usize];
     let mut x = x;
-    let mut place = x / 8_796_093_022_208 % 24;
-    for line in 0..24 {
+    let mut place = x / 8_796_093_022_208 % 32;
+    for line in 0..32 {
         x = next(x);
-        place = place.saturating_add(stride) % 24;
+        place = place.saturating_add(stride) % 32;
         push_made(text, FORMS[place as usize], x, line, drivers)?;
     }
     Ok(())

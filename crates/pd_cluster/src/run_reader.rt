@@ -19,11 +19,8 @@ impl<T: Drop> From<AllocFailed<T>> for Unread {
     }
 }
 
-// Timestamps of a millisecond.
-const MS: u64 = 262_144;
-
-// The first millisecond that no window reaches.
-const CLOCK_END: u64 = 35_184_372_088_832;
+/// Timestamps of a millisecond.
+pub const MS: u64 = 262_144;
 
 /// What tells that a command of pd-ctl gave the driver's term up.
 pub const RESIGNED: &str = "{\"done\":\"Resigned\"}";
@@ -74,7 +71,7 @@ pub struct Answer<'a> {
 // The sections, in their order.
 const WINDOWS: u8 = 0;
 
-const DRIVERS: u8 = 1;
+pub const DRIVERS: u8 = 1;
 
 pub const CLIENTS: u8 = 2;
 
@@ -92,8 +89,8 @@ impl<'a> Answer<'a> {
         self.section == DRIVERS && matches!(self.asked.word, "lead" | "tick" | "resign")
     }
 
-    // The count of a draw at this driver that was answered `got` or `again`, else 0.
-    fn drawn_at(&self, driver: u64) -> u64 {
+    /// The count of a draw at this driver that was answered `got` or `again`, else 0.
+    pub fn drawn_at(&self, driver: u64) -> u64 {
         let drew = self.said.word == "got" || self.said.word == "again";
         if drew && self.asked.at(1) == driver {
             self.asked.at(2)
@@ -102,8 +99,8 @@ impl<'a> Answer<'a> {
         }
     }
 
-    // Where it says that its driver's cursor was raised to, else 0.
-    fn start(&self) -> u64 {
+    /// Where it says that its driver's cursor was raised to, else 0.
+    pub fn start(&self) -> u64 {
         match self.said.word {
             "won" => self.said.at(2).saturating_mul(MS),
             "moved" => self.said.at(1).saturating_mul(MS),
@@ -138,9 +135,9 @@ struct Entry<'a> {
 /// with the opening cell's term and saved time.
 #[derive(Drop)]
 pub struct Printed<'a> {
-    opened: (u64, u64),
-    windows: Vec<Words<'a>>,
-    answers: Vec<Answer<'a>>,
+    pub opened: (u64, u64),
+    pub windows: Vec<Words<'a>>,
+    pub answers: Vec<Answer<'a>>,
     journals: Journals<'a>,
     post: Vec<Entry<'a>>,
 }
@@ -295,7 +292,10 @@ impl<'a> Printed<'a> {
     ) -> Result<(), Unread> {
         match head.0 {
             WINDOWS => self.windows.push(Words::of(alloc, line)?)?,
-            JOURNALS => self.journals.read_entry(head.1, line)?,
+            JOURNALS => {
+                let answers = self.answers.as_slice();
+                self.journals.read_entry(head.1, line, answers)?;
+            }
             META => self.journals.read_call(line)?,
             POST => {
                 let words = Words::of(alloc, line)?;
@@ -308,136 +308,6 @@ impl<'a> Printed<'a> {
             }
         }
         Ok(())
-    }
-
-    // The last end of a driver's term that its answers tell, 0 where none does.
-    fn told_end(&self, driver: u64, term: u64) -> u64 {
-        let (mut holds, mut end) = (false, 0);
-        for one in &self.answers {
-            if one.section != DRIVERS || one.actor != driver {
-                continue;
-            }
-            match one.said.word {
-                "won" => {
-                    holds = one.said.at(1) == term;
-                    if holds {
-                        end = one.said.at(3);
-                    }
-                }
-                "moved" if holds => end = one.said.at(2),
-                _ => {}
-            }
-        }
-        end
-    }
-
-    // The windows follow one another, each of a later term and behind the end of the one before, and
-    // each ends where its driver's answers tell.
-    fn windows_follow(&self) -> bool {
-        let mut before = self.opened;
-        for window in &self.windows {
-            let (term, lo, hi) = (window.at(0), window.at(2), window.at(3));
-            let told = self.told_end(window.at(1), term);
-            if term <= before.0 || lo < before.1 || hi <= lo || hi != told {
-                return false;
-            }
-            before = (term, hi);
-        }
-        true
-    }
-
-    // A lead that won: its window begins by the moment and the end of the one before, and ends there or later.
-    fn won(&self, one: &Answer) -> bool {
-        let (now, term) = (one.asked.at(1), one.said.at(1));
-        let (lo, hi) = (one.said.at(2), one.said.at(3));
-        let mut end = self.opened.1;
-        for window in &self.windows {
-            if window.at(0) == term {
-                let own = window.at(1) == one.actor && window.at(2) == lo && hi <= window.at(3);
-                let next = now.max(end.saturating_add(1));
-                return own && lo == next && hi == next.saturating_add(3000);
-            }
-            end = window.at(3);
-        }
-        false
-    }
-
-    // The counts of all draws at a driver, but for those of this client from this line on.
-    fn drawn(&self, driver: u64, client: u64, line: u64) -> u64 {
-        let mut sum = 0u64;
-        for one in &self.answers {
-            if one.section == CLIENTS && (one.actor != client || one.line < line) {
-                sum = sum.saturating_add(one.drawn_at(driver));
-            }
-        }
-        sum
-    }
-
-    // A tick: what its plan says of some cursor from the driver's greatest start on. The plan changes with a millisecond and with its
-    // second half.
-    fn ticked(&self, one: &Answer, hi: u64, start: u64) -> bool {
-        let last = start.saturating_add(self.drawn(one.actor, 0, 0));
-        let said = (one.said.word, one.said.at(1), one.said.at(2));
-        if tick(one.asked.at(1), hi, start) == said {
-            return true;
-        }
-        for ms in start / MS..=last / MS {
-            let begin = ms.saturating_mul(MS);
-            for cursor in [begin, begin.saturating_add(131_073)] {
-                let there = start <= cursor && cursor <= last;
-                if there && tick(one.asked.at(1), hi, cursor) == said {
-                    return true;
-                }
-            }
-        }
-        false
-    }
-
-    // The term that was found is above those that the driver had won, and no window of its own has it.
-    fn found(&self, one: &Answer, won: u64) -> bool {
-        let term = one.said.at(2);
-        term > won
-            && !self
-                .windows
-                .iter()
-                .any(|w| w.at(0) == term && w.at(1) == one.actor)
-    }
-
-    // The moment or the end of a window is so late that no window of 3 seconds fits behind it.
-    fn is_past(&self, one: &Answer) -> bool {
-        let late = |ms: u64| ms.saturating_add(3001) >= CLOCK_END;
-        late(one.asked.at(1).saturating_sub(1)) || self.windows.iter().any(|w| late(w.at(3)))
-    }
-
-    // A driver's answers, one after the other.
-    fn drives(&self, driver: u64) -> bool {
-        let (mut holds, mut hi, mut start, mut term) = (false, 0, 0u64, 0);
-        for one in &self.answers {
-            if one.section != DRIVERS || one.actor != driver {
-                continue;
-            }
-            let lawful = match one.said.word {
-                word if !one.is_oracle() => word != RESIGNED || holds,
-                "won" => self.won(one),
-                "moved" | "idle" => holds && self.ticked(one, hi, start),
-                "resigned" => holds,
-                "not-leading" => !holds,
-                "beaten" | "lost" => self.found(one, term),
-                "clock-range" => self.is_past(one),
-                _ => false,
-            };
-            if !lawful {
-                return false;
-            }
-            start = start.max(one.start());
-            match one.said.word {
-                "won" => (holds, hi, term) = (true, one.said.at(3), one.said.at(1)),
-                "moved" => hi = one.said.at(2),
-                "lost" | "resigned" | RESIGNED => holds = false,
-                _ => {}
-            }
-        }
-        true
     }
 
     // A batch: the count and the driver that were asked for, inside a window and one millisecond, and above
@@ -511,13 +381,15 @@ impl<'a> Printed<'a> {
     // A client's answer.
     fn draws(&self, one: &Answer) -> bool {
         let earlier = |w: &Words| w.at(1) == one.asked.at(1) && w.at(0) < one.seen.0;
-        match one.said.word {
-            "got" => self.got(one),
-            "again" => self.again(one),
-            "stale" => one.said.at(1) == one.seen.0 && self.windows.iter().any(earlier),
-            "not-leader" => self.no_leader(one),
-            "told" => one.asked.word == "tell",
-            "heard" | "nothing" => one.asked.word == "hear",
+        match (one.asked.word, one.said.word) {
+            ("take", "got") => self.got(one),
+            ("take", "again") => self.again(one),
+            ("take", "stale") => {
+                one.said.at(1) == one.seen.0 && self.windows.iter().any(earlier)
+            }
+            ("take", "not-leader") => self.no_leader(one),
+            ("tell", "told") => true,
+            ("hear", "heard" | "nothing") => true,
             _ => false,
         }
     }
@@ -612,35 +484,16 @@ impl<'a> Printed<'a> {
     }
 
     /// Whether all of it is that of a lawful run.
-    pub fn is_lawful(&self) -> bool {
+    pub fn is_lawful(&self, alloc: Global) -> Result<bool, Unread> {
         for one in &self.answers {
             if one.section == DRIVERS && !self.drives(one.actor) {
-                return false;
+                return Ok(false);
             }
             if one.section == CLIENTS && !self.draws(one) {
-                return false;
+                return Ok(false);
             }
         }
-        self.windows_follow()
-            && self.apart()
-            && self.post_keeps()
-            && self.journals.are_lawful(&self.answers)
-    }
-}
-
-// What a tick at this moment answers, over the end of the window and the cursor.
-fn tick(now: u64, hi: u64, cursor: u64) -> (&'static str, u64, u64) {
-    let ms = cursor / MS;
-    let next = if now > ms.saturating_add(1) {
-        now
-    } else if cursor % MS > 131_072 || ms >= hi {
-        ms.saturating_add(1)
-    } else {
-        return ("idle", 0, 0);
-    };
-    if hi <= next.saturating_add(1) {
-        ("moved", next, next.saturating_add(3000))
-    } else {
-        ("moved", next, hi)
+        let told = self.windows_follow() && self.apart() && self.post_keeps();
+        Ok(told && self.journals.are_lawful(alloc, self.answers.as_slice())?)
     }
 }

@@ -1,5 +1,6 @@
 // Scripts by `run`, over a source and a sink in memory.
 use crate::ctl_tests::{self, benches};
+use crate::lawful_texts;
 use crate::run_reader::Printed;
 use crate::status::Status;
 use crate::tests::{self, answers_of, script_of};
@@ -395,6 +396,12 @@ fn outcomes_of_lines_in_their_order_are_as_worked_out(rt: HostRuntime) -> Result
         (BEHIND_ITS_BACK, BEHIND_ITS_BACK_OUTCOME),
         (LOST_TERM, LOST_TERM_OUTCOME),
         (STEPS, STEPS_OUTCOME),
+        lawful_texts::TERM,
+        lawful_texts::WRITES,
+        lawful_texts::TURNS,
+        lawful_texts::REGIONS,
+        lawful_texts::OPERATORS,
+        lawful_texts::PATROL,
     ];
     for (script, outcome) in rows {
         let order = order_of(rt.alloc(), script)?;
@@ -497,7 +504,7 @@ fn the_65th_step_finds_no_room(rt: HostRuntime) -> Result<(), Fail> {
 // Reads what a script printed.
 pub fn expect_read<R: AllocGlobal + Abort>(rt: &R, script: &str, text: &str) -> Result<(), Fail> {
     let printed = Printed::read(rt.alloc(), script, text)?;
-    assert!(rt; printed.is_lawful(), "{script}{text}");
+    assert!(rt; printed.is_lawful(rt.alloc())?, "{script}{text}");
     Ok(())
 }
 
