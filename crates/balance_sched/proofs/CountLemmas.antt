@@ -4,6 +4,7 @@ use Rattle.std.specs.List.{find, list_any}
 use Rattle.std.proofs.lemmas.Bool.Decides.{nat_tests}
 use Rattle.std.proofs.lemmas.Bool.{true≢false}
 use Rattle.std.proofs.lemmas.List.Sums.{sum_by-append, sum_by-cons}
+use Rattle.pd_types.proofs.Numbers.{differ, same_number}
 use Rattle.pd_types.specs.BeatCheck.{fails, first_fault, has_id, has_store, shares_id}
 use Rattle.pd_types.specs.declared.beat.BeatFault.TheVariants.{NoPeers, TooManyPeers, DoublePeer}
 use Rattle.pd_types.specs.declared.proposal.Proposal.TheVariants as proposals
@@ -35,12 +36,6 @@ or_false a b h k = rw (h, k) refl
 none_of : (a b : Bool) → (a || b) ≡ false → (a ≡ false) × (b ≡ false)
 none_of true b h = absurd (true≢false h)
 none_of false b h = (refl, h)
-
-equal_by : (a b : ℕ) → nat_eq a b ≡ true → a ≡ b
-equal_by a b h = grind (arith, nat_tests)
-
-apart_by : (a b : ℕ) → a ≢ b → nat_eq a b ≡ false
-apart_by a b h = false_by (nat_eq a b) (λ e. h (equal_by a b e))
 
 same_as : (a : ℕ) → nat_eq a a ≡ true
 same_as a = grind (arith, nat_tests)
@@ -97,9 +92,9 @@ one_to move (peer ∷ peers) h = came_to move peer peers (peer.store == move.fro
 -- each other store has a peer where it had one
 kept_store : (move : Move) (peer : Peer) (store : ℕ) (b : Bool) → (peer.store == move.from) ≡ b → store ≢ move.from → store ≢ move.to → nat_eq (on_target move peer).store store ≡ nat_eq peer.store store
 kept_store move peer store true e from to =
-    let here : peer.store ≡ move.from = equal_by peer.store move.from (same_test peer.store move.from true e) in
-    let no : nat_eq move.to store ≡ false = apart_by move.to store (λ same. to (sym same)) in
-    let neither : nat_eq peer.store store ≡ false = apart_by peer.store store (λ same. from (sym same ∙ here)) in
+    let here : peer.store ≡ move.from = same_number peer.store move.from (same_test peer.store move.from true e) in
+    let no : nat_eq move.to store ≡ false = differ move.to store (λ same. to (sym same)) in
+    let neither : nat_eq peer.store store ≡ false = differ peer.store store (λ same. from (sym same ∙ here)) in
     rw (e, no, neither) refl
 kept_store move peer store false e from to = rw e refl
 
@@ -122,8 +117,8 @@ no_id (peer ∷ peers) id store none =
 
 here_only : (peer : Peer) (peers : List Peer) (id store : ℕ) → nat_eq peer.id id ≡ true → has_id peers peer.id ≡ false → (is_at id store peer || list_any (is_at id store) peers) ≡ true → peer.store ≡ store
 here_only peer peers id store same alone h =
-    let behind : list_any (is_at id store) peers ≡ false = no_id peers id store (subst (λ (n : ℕ). has_id peers n ≡ false) (equal_by peer.id id same) alone) in
-    equal_by peer.store store (first (nat_eq peer.store store) (rw (same, behind) at h))
+    let behind : list_any (is_at id store) peers ≡ false = no_id peers id store (subst (λ (n : ℕ). has_id peers n ≡ false) (same_number peer.id id same) alone) in
+    same_number peer.store store (first (nat_eq peer.store store) (rw (same, behind) at h))
   where
     first : (b : Bool) → (b || false) ≡ true → b ≡ true
     first true k = refl
@@ -187,7 +182,7 @@ leads_by beat move peer store found = rw found refl
 
 -- the source has what moves no more
 pub source_after : (kind : Kind) (tables : Tables) (beat : RegionBeat) (move : Move) → first_fault beat ≡ None → IsMoveOf kind tables beat move → is_source kind move.from (done kind move beat) ≡ false
-source_after Regions tables beat move sound moves = none_from move beat.region.peers (apart_by move.to move.from (goes_apart Regions tables beat move moves))
+source_after Regions tables beat move sound moves = none_from move beat.region.peers (differ move.to move.from (goes_apart Regions tables beat move moves))
 source_after Leaders tables beat move sound moves =
     let taken = taken_by tables beat move.to (peer_on move.to beat) refl moves.target in
     let on = found_on beat.region.peers move.to taken.peer taken.found in

@@ -1,6 +1,6 @@
 -- One move looked at: it loses, or takes the place of what was found.
-use Rattle.std.proofs.Common.{◌≡◌, ◌∙◌, sym, refl, ap, subst, ℕ, ◌-◌, ◌<◌, ◌≤◌, Bool, true, false, ◌&&◌, arith, Option, Some, inr, Contains}
-use Rattle.std.proofs.lemmas.Bool.{true≢false}
+use Rattle.std.proofs.Common.{◌≡◌, ◌∙◌, sym, refl, ap, subst, ℕ, ◌-◌, ◌<◌, ◌≤◌, true, false, arith, Option, Some, inr, Contains}
+use Rattle.pd_types.proofs.Bools.{and_both, and_true}
 use Rattle.pd_types.specs.declared.region.RegionBeat.{RegionBeat}
 use Rattle.store_table.specs.Entries.{is_live, is_usable}
 use Rattle.balance_sched.specs.declared.moves.Kind.{Kind}
@@ -25,18 +25,10 @@ one_move kind tables beat move from to have count f t moves h c =
     let second : count_of kind move.to tables.held ≡ count = ap (λ (store : ℕ). count_of kind store tables.held) t ∙ sym c in
     same_move move beat from to (have - count) moves.region f t (omega (arith, moves.difference, first, second))
 
-both_true : (a b : Bool) → (a && b) ≡ true → (a ≡ true) × (b ≡ true)
-both_true true b h = (refl, h)
-both_true false b h = absurd (true≢false (sym h))
-
-and_true : (a b : Bool) → a ≡ true → b ≡ true → (a && b) ≡ true
-and_true true b h k = k
-and_true false b h k = absurd (true≢false (sym h))
-
 pub allowed_of : (kind : Kind) (tables : Tables) (beat : RegionBeat) (move : Move) → IsMoveOf kind tables beat move → IsAllowed kind tables beat move
 allowed_of kind tables beat move moves = record {
-  goes = and_true (is_live move.from tables.now tables.stores) _ moves.from_live
-      (and_true (is_live move.to tables.now tables.stores) _ moves.to_live (and_true (is_usable move.to tables.now tables.stores) _ moves.to_usable moves.target));
+  goes = and_both (is_live move.from tables.now tables.stores) _ moves.from_live
+      (and_both (is_live move.to tables.now tables.stores) _ moves.to_live (and_both (is_usable move.to tables.now tables.stores) _ moves.to_usable moves.target));
   after = moves.after;
 }
 
@@ -66,9 +58,9 @@ pub taken : (kind : Kind) (tables : Tables) (beat : RegionBeat) (from to have co
     Follows kind tables beat best (Some (one_of beat from to (have - count)))
 taken kind tables beat from to have count best h c wide source idle fits allowed beats =
     let one : Move = one_of beat from to (have - count) in
-    let goes = both_true (is_live from tables.now tables.stores) _ allowed.goes in
-    let comes = both_true (is_live to tables.now tables.stores) _ goes.1 in
-    let usable = both_true (is_usable to tables.now tables.stores) _ comes.1 in
+    let goes = and_true (is_live from tables.now tables.stores) _ allowed.goes in
+    let comes = and_true (is_live to tables.now tables.stores) _ goes.1 in
+    let usable = and_true (is_usable to tables.now tables.stores) _ comes.1 in
     inr (
       one,
       (

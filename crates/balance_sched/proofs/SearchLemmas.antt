@@ -1,5 +1,5 @@
 -- The search over targets, peers and regions.
-use Rattle.std.proofs.Common.{◌≡◌, ◌∙◌, sym, refl, ap, subst, ℕ, ◌+◌, ◌<◌, ◌≤◌, Bool, true, false, ◌&&◌, nat_eq, ◌==◌, arith, List, length, get_or, take, ◌++◌, ◌∷◌, [], map, option_map, Option, Some, None, IfSome, inl, inr, Contains}
+use Rattle.std.proofs.Common.{◌≡◌, ◌∙◌, sym, refl, ap, subst, ℕ, ◌+◌, ◌<◌, ◌≤◌, true, false, ◌&&◌, nat_eq, ◌==◌, arith, List, length, get_or, take, ◌++◌, ◌∷◌, [], map, option_map, Option, Some, None, IfSome, inl, inr, Contains}
 use Rattle.std.proofs.lemmas.Bool.{true≢false}
 use Rattle.std.proofs.lemmas.Bool.Decides.{nat_tests}
 use Rattle.std.proofs.lemmas.Option.{slice_get-map, slice_get_within, get_or_from_slice_get}
@@ -7,6 +7,8 @@ use Rattle.std.proofs.lemmas.List.{take_more, map-append}
 use Rattle.pd_types.specs.declared.store.StoreRec.{StoreRec}
 use Rattle.std.specs.Option.{option_map_or}
 use Rattle.std.specs.List.{slice_get}
+use Rattle.pd_types.proofs.Numbers.{same_number}
+use Rattle.pd_types.proofs.Bools.{and_true}
 use Rattle.pd_types.specs.declared.region.Peer.{Peer}
 use Rattle.pd_types.specs.declared.region.RegionBeat.{RegionBeat}
 use Rattle.store_table.specs.declared.entry.StoreEntry.{StoreEntry}
@@ -67,21 +69,14 @@ target_place Leaders tables beat move moves =
     let taker = taker_by tables beat move.to (peer_on move.to beat) refl moves.target in
     (taker.0, slice_get-map (λ (peer : Peer). peer.store) beat.region.peers taker.0 ∙ ap (option_map (λ (peer : Peer). peer.store)) taker.2 ∙ ap (λ (store : ℕ). Some store) taker.3)
 
-both_true : (a b : Bool) → (a && b) ≡ true → (a ≡ true) × (b ≡ true)
-both_true true b h = (refl, h)
-both_true false b h = absurd (true≢false (sym h))
-
-same_store : (store other : ℕ) → nat_eq store other ≡ true → store ≡ other
-same_store store other e = grind (arith, nat_tests)
-
 -- and comes from the store of one of the peers
 pub source_place : (kind : Kind) (beat : RegionBeat) (from : ℕ) → is_source kind from beat ≡ true → (k : ℕ) × (peer : Peer) × (slice_get beat.region.peers k ≡ Some peer) × (peer.store ≡ from)
 source_place Regions beat from source =
     let found = any_at (λ (peer : Peer). nat_eq peer.store from) beat.region.peers source in
-    (found.place, found.one, found.at, same_store found.one.store from found.passes)
+    (found.place, found.one, found.at, same_number found.one.store from found.passes)
 source_place Leaders beat from source =
     let found = any_at (λ (peer : Peer). nat_eq peer.id beat.leader && nat_eq peer.store from) beat.region.peers source in
-    (found.place, found.one, found.at, same_store found.one.store from (both_true (nat_eq found.one.id beat.leader) (nat_eq found.one.store from) found.passes).1)
+    (found.place, found.one, found.at, same_number found.one.store from (and_true (nat_eq found.one.id beat.leader) (nat_eq found.one.store from) found.passes).1)
 
 -- targets, one by one
 pub to_none : (kind : Kind) (tables : Tables) (beat : RegionBeat) (from : ℕ) (best : Option Move) → LoseTo kind tables beat from 0 best

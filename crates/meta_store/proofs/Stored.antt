@@ -19,7 +19,7 @@ use Rattle.pd_types.specs.declared.store.StoreState.TheVariants.{Up, Offline, To
 use Rattle.pd_types.proofs.KeyLemmas.{equal_keys, same_keys}
 use Rattle.pd_lines.specs.Labels.{AreLabels, labels_of, labels_text, label_text}
 use Rattle.pd_lines.specs.Plain.{address_of, is_plain}
-use Rattle.pd_lines.proofs.Cutting.{both_true}
+use Rattle.pd_types.proofs.Bools.{and_true}
 use Rattle.pd_lines.proofs.Listing.{cut_again, labels_read, labels_written, no_labels, plain_lacks_space, text_lacks_space, then_some, when_some}
 use Rattle.meta_store.specs.Stores.{Fields, IsStore, fields_by, fields_of, id_of, key_value, labels_word, state_of, state_word, store_by, store_bytes, store_key, store_of, stored_labels, twenty}
 
@@ -59,8 +59,8 @@ id_ok : (key : List ℕ) (id : ℕ) → id_of key ≡ Some id → IsKeyOf key id
 id_ok key id is =
     let v : ℕ = key_value key in
     let passed = when_some (nat_lt 0 v && nat_lt v (2 ^ 63) && bytes_eq (store_key v) key) v id is in
-    let first = both_true (nat_lt 0 v && nat_lt v (2 ^ 63)) (bytes_eq (store_key v) key) passed.0 in
-    let ranges = both_true (nat_lt 0 v) (nat_lt v (2 ^ 63)) first.0 in
+    let first = and_true (nat_lt 0 v && nat_lt v (2 ^ 63)) (bytes_eq (store_key v) key) passed.0 in
+    let ranges = and_true (nat_lt 0 v) (nat_lt v (2 ^ 63)) first.0 in
     let made : IsKeyOf key v = record { some = grind (arith, nat_tests, ranges.0); low = grind (arith, nat_tests, ranges.1); is = sym (same_keys (store_key v) key first.1) } in
     subst (IsKeyOf key) passed.1 made
 

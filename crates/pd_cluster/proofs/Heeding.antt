@@ -1,10 +1,10 @@
 -- What the answers of a replay tell that schedulers said is, driver by driver, what its benches said in it.
 use Rattle.std.proofs.Common.{◌≡◌, ◌≢◌, ◌⊎◌, inl, inr, ◌<◌, ◌≤◌, ℕ, zero, suc, ◌+◌, nat_eq, nat_le, Bool, true, false, cond, List, [], ◌∷◌, ◌++◌, length, length-set, take, drop, get_or, replicate, Option, Some, None, refl, sym, ap, subst, ◌∙◌, append_assoc, append-nil, arith}
 use Rattle.std.proofs.Math.Seq.{drop-length}
-use Rattle.std.proofs.lemmas.Bool.Decides.{nat_tests}
 use Rattle.std.proofs.lemmas.List.{get_or-set_other, get_or-set_same}
 use Rattle.std.specs.List.{AllByRecursion}
 use Rattle.std.specs.Prelude.{Result, Ok, Err}
+use Rattle.pd_types.proofs.Numbers.{other_number, same_number}
 use Rattle.pd_types.specs.declared.oracle.Actor.{Actor}
 use Rattle.pd_types.specs.declared.region.RegionBeat.{RegionBeat}
 use Rattle.pd_types.specs.declared.proposal.Proposal.{Proposal}
@@ -370,17 +370,11 @@ module _ (kept : Kept) (d n : ℕ) (request : Request) (e : ℕ) where
         ∙ ap (λ (xs : List Heeded). xs ++ (talk_at after.talks e).said) (cond_none (nat_eq (driver_in (Some (asker d request))) e)) ∙ turnless_left none
   ]
     where
-      same_or : (a b : ℕ) → nat_eq a b ≡ true → b ≡ a
-      same_or a b h = grind (arith, nat_tests)
-
-      differ : (a b : ℕ) → nat_eq a b ≡ false → b ≢ a
-      differ a b h k = grind (arith, nat_tests)
-
       by : (t : Bool) → nat_eq d e ≡ t → cond t (heeded (served kept d n request).reply) [] ++ (talk_at after.talks e).said ≡ (talk_at kept.talks e).said
       by true is =
-          ap (λ (xs : List Heeded). xs ++ (talk_at after.talks e).said) (served_heeds kept d n request) ∙ ap (λ (xs : List Heeded). said ++ xs) (same_left within (same_or d e is)) ∙ taken
-          ∙ ap (λ (k : ℕ). (talk_at kept.talks k).said) (sym (same_or d e is))
-      by false is = other_left (differ d e is)
+          ap (λ (xs : List Heeded). xs ++ (talk_at after.talks e).said) (served_heeds kept d n request) ∙ ap (λ (xs : List Heeded). said ++ xs) (same_left within (sym (same_number d e is))) ∙ taken
+          ∙ ap (λ (k : ℕ). (talk_at kept.talks k).said) (same_number d e is)
+      by false is = other_left (other_number d e is)
 
 besides_left : (kept : Kept) (d n : ℕ) (o : Option Request) (e : ℕ) → AreTurnless o → (talk_at (with_besides kept d n o).talks e).said ≡ (talk_at kept.talks e).said
 besides_left kept d n None e none = refl

@@ -2,10 +2,10 @@
 use Rattle.std.proofs.Common.{cond, ltb, nat_eq, ◌⊎◌, inl, inr, ⊎_elim, ◌<◌, ◌≤◌, ◌≡◌, ℕ, ◌+◌, zero, suc, ◌^◌, List, [], ◌∷◌, ◌++◌, Bool, true, false, length, map, refl, sym, ap, ◌∙◌, subst, arith, append_assoc}
 use Rattle.std.specs.Prelude.{All, AllPairs, Contains, Option, None, Some, option_to_list, reverse, slice_index_or}
 use Rattle.std.specs.List.{AllByRecursion}
-use Rattle.std.proofs.lemmas.Bool.Decides.{nat_tests}
 use Rattle.std.proofs.lemmas.List.Elements.{All-from_recursion, All-nil, recursion_from_All}
 use Rattle.std.proofs.lemmas.List.Kept.{AllPairs-cons}
 use Rattle.std.proofs.lemmas.List.{append-nil, length-replicate}
+use Rattle.pd_types.proofs.Numbers.{other_number, same_number}
 use Rattle.pd_types.specs.Batch.{first_of}
 use Rattle.pd_types.specs.declared.oracle.Batch.{Batch}
 use Rattle.pd_types.specs.declared.oracle.Seen.{Seen}
@@ -313,18 +313,12 @@ up_to_more a b c one two = record { term = omega (arith, one.term, two.term); la
 rises_all : (w : Whole) (d c : ℕ) (r : Stepped) → Tells w d c r → (e : ℕ) → HasClient w.setup e → IsUpTo (seen_at w e) (seen_at r.after e)
 rises_all w d c r told e has = cases (nat_eq c e) refl
   where
-    same_or : (a b : ℕ) → nat_eq a b ≡ true → a ≡ b
-    same_or a b h = grind (arith, nat_tests)
-
-    differ : (a b : ℕ) → nat_eq a b ≡ false → b ≡ a → ⊥
-    differ a b h k = grind (arith, nat_tests)
-
     kept : (x y : Seen) → y ≡ x → IsUpTo x y
     kept x y is = record { term = omega (arith, ap (λ (s : Seen). s.term) is); last = omega (arith, ap (λ (s : Seen). s.last) is) }
 
     cases : (test : Bool) → nat_eq c e ≡ test → IsUpTo (seen_at w e) (seen_at r.after e)
-    cases true is = subst (λ (x : ℕ). HasClient w.setup x → IsUpTo (seen_at w x) (seen_at r.after x)) (same_or c e is) told.risen has
-    cases false is = kept (seen_at w e) (seen_at r.after e) (told.others e has (differ c e is))
+    cases true is = subst (λ (x : ℕ). HasClient w.setup x → IsUpTo (seen_at w x) (seen_at r.after x)) (same_number c e is) told.risen has
+    cases false is = kept (seen_at w e) (seen_at r.after e) (told.others e has (other_number c e is))
 
 -- of each element all, so all of each
 all_swap : {A B : Type 0} (P : A → B → Type 0) (xs : List A) (ys : List B) → AllByRecursion (λ x. AllByRecursion (P x) ys) xs → AllByRecursion (λ y. AllByRecursion (λ x. P x y) xs) ys

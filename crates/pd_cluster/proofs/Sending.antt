@@ -6,6 +6,7 @@ use Rattle.std.specs.FinMap as map
 use Rattle.std.specs.Ordering.{nat_cmp}
 use Rattle.std.proofs.lemmas.Bool.Decides.{nat_tests}
 use Rattle.std.proofs.lemmas.List.{reverse-append}
+use Rattle.pd_types.proofs.Numbers.{other_number, same_number}
 use Rattle.pd_types.specs.declared.oracle.Actor.{Actor}
 use Rattle.pd_types.specs.declared.oracle.Actor.TheVariants.{Driver, Client, Store}
 use Rattle.pd_types.specs.declared.request.Request.{Request}
@@ -297,12 +298,6 @@ pub record Makes (old new : List (List Entry)) (d : ℕ) (line : Line) (said : S
   pub is : past_at new d ≡ more ++ past_at old d
   pub made : MakesIn d line said (reverse more)
 
-same_driver : (d e : ℕ) → nat_eq d e ≡ true → d ≡ e
-same_driver d e h = grind (arith, nat_tests)
-
-other_driver : (d e : ℕ) → nat_eq d e ≡ false → e ≡ d → ⊥
-other_driver d e h same = grind (arith, nat_tests)
-
 -- a request that a line asks of a cluster
 module _ (kept : Kept) (d n : ℕ) (actor : Option Actor) (request : Request) (within : d < length kept.journals) where
   abbrev it : Entry
@@ -317,14 +312,14 @@ module _ (kept : Kept) (d n : ℕ) (actor : Option Actor) (request : Request) (w
       by : (t : Bool) → nat_eq d e ≡ t → Makes kept.journals (with_served kept d n request).journals e asking (ByCluster it.reply)
       by true same = record {
         more = it ∷ [];
-        is = subst (λ (k : ℕ). past_at (with_served kept d n request).journals k ≡ it ∷ past_at kept.journals k) (same_driver d e same) (put_here kept.journals d (it ∷ past_at kept.journals d) [] within);
+        is = subst (λ (k : ℕ). past_at (with_served kept d n request).journals k ≡ it ∷ past_at kept.journals k) (same_number d e same) (put_here kept.journals d (it ∷ past_at kept.journals d) [] within);
         made = subst (λ (t : Bool). IsJustOf t n request it.reply (it ∷ [])) (sym same) (record { entry = it; one = refl; line_is = refl; request_is = refl; reply_is = refl });
       }
       by false other = record {
         more = [];
         is = elim (put_at kept.journals d e (it ∷ past_at kept.journals d) []) [
           | inl same ↦ same
-          | inr put ↦ absurd (other_driver d e other put.0)
+          | inr put ↦ absurd (other_number d e other put.0)
         ];
         made = subst (λ (t : Bool). IsJustOf t n request it.reply []) (sym other) refl;
       }

@@ -1,11 +1,11 @@
 -- What a cluster that served a request means among the journals.
-use Rattle.std.proofs.Common.{◌≡◌, ◌≢◌, ◌≤◌, ◌⊎◌, inl, inr, Bool, true, nat_eq, cond, take, map, subst, length-set, ℕ, zero, suc, ◌+◌, ◌<◌, List, [], ◌∷◌, ◌++◌, false, length, get_or, replicate, set, reverse, length-append, append_assoc, append-nil, Some, refl, sym, ap, ◌∙◌, arith}
+use Rattle.std.proofs.Common.{◌≡◌, ◌≤◌, ◌⊎◌, inl, inr, Bool, true, nat_eq, cond, take, map, subst, length-set, ℕ, zero, suc, ◌+◌, ◌<◌, List, [], ◌∷◌, ◌++◌, false, length, get_or, replicate, set, reverse, length-append, append_assoc, append-nil, Some, refl, sym, ap, ◌∙◌, arith}
 use Rattle.std.specs.Borrow.{Bor}
 use Rattle.std.specs.Prelude.{◌&&◌, not, is_some, option_copied, option_map, IfOk, OnOk, None, Option, Result, Ok, Err}
 use Rattle.std.proofs.Math.Seq.{get_or-append_seam}
-use Rattle.std.proofs.lemmas.Bool.Decides.{nat_tests}
 use Rattle.std.proofs.lemmas.List.{length-map, get_or-map, get_or-set_same, get_or-set_other, get_or_append_left, map-append, map-set, replicate-append-replicate, reverse-append}
 use Rattle.std.proofs.lemmas.List.Elements.{All-push, All-set}
+use Rattle.pd_types.proofs.Numbers.{other_number, same_number}
 use Rattle.pd_types.specs.declared.oracle.Actor.{Actor}
 use Rattle.pd_types.specs.declared.request.Request.{Request}
 use Rattle.pd_types.specs.declared.request.Request.TheVariants as ask
@@ -193,17 +193,11 @@ module _ (items : List ClusterValue) (d : ℕ) (c new : ClusterValue) (journal n
       low_before : e < length items
       low_before = omega (arith, low, length-set items d new)
 
-      same_or : (a b : ℕ) → nat_eq a b ≡ true → a ≡ b
-      same_or a b h = grind (arith, nat_tests)
-
-      differ : (a b : ℕ) → nat_eq a b ≡ false → b ≢ a
-      differ a b h k = grind (arith, nat_tests)
-
       by : (test : Bool) → nat_eq d e ≡ test → (get_or (set items d new) e any).driver ≡ e
       by true is =
-          let one : d ≡ e = same_or d e is in
+          let one : d ≡ e = same_number d e is in
           ap (λ n. (get_or (set items d new) n any).driver) (sym one) ∙ ap (λ (v : ClusterValue). v.driver) (get_or-set_same items d new any within) ∙ s.driver_is ∙ numbered d c within ∙ one
-      by false is = ap (λ (v : ClusterValue). v.driver) (get_or-set_other items d e new any (differ d e is)) ∙ numbered e any low_before
+      by false is = ap (λ (v : ClusterValue). v.driver) (get_or-set_other items d e new any (other_number d e is)) ∙ numbered e any low_before
 
 -- what a request that was served means, over benches that are seen so and go on to these
 pub record IsServed (items after : List ClusterValue) (journal now : List MetaEntry) (olds news ends : List Seats) (d line : ℕ) (request : Request) (reply : Reply) : Type 0 where

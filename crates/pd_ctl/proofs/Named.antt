@@ -3,14 +3,11 @@ use Rattle.std.proofs.Common.{◌≡◌, ℕ, ◌≤◌, ◌⊎◌, inl, inr, re
 use Rattle.std.specs.List.{find, list_all}
 use Rattle.std.proofs.lemmas.Bool.Decides.{nat_tests}
 use Rattle.std.proofs.lemmas.Slice.Eq.{bytes_eq-Decides}
+use Rattle.pd_types.proofs.Bools.{and_true}
 use Rattle.pd_ctl.specs.Causes.{Names}
 use Rattle.pd_ctl.specs.Table.{row, verbs, begin_with, agrees, verb_of}
 use Rattle.pd_ctl.specs.declared.verb.Verb.{Verb}
 use Rattle.pd_ctl.specs.declared.verb.Verb.TheVariants.{Store, StoreDelete, StoreLimit, Region, RegionKey, OperatorShow, AddPeer, RemovePeer, TransferLeader, TransferPeer, OperatorRemove, OperatorCheck, SchedulerShow, SchedulerRemove, LeaderShow, LeaderResign, Tso}
-
-both_true : (a b : Bool) → (a && b) ≡ true → (a ≡ true) × (b ≡ true)
-both_true true b h = (refl, h)
-both_true false b h = absurd (cc h)
 
 -- how many fixed words a command has
 abbrev size : Verb → ℕ
@@ -75,9 +72,9 @@ le_of m n h = grind (arith, nat_tests)
 behind_it : (one : Verb) (more : List Verb) (verb : Verb) → list_all (λ other. nat_le (size other) (size one)) more ≡ true → Among verb more → size verb ≤ size one
 behind_it one [] verb h listed = absurd listed
 behind_it one (next ∷ more) verb h (inl same) =
-    let low = le_of (size next) (size one) (both_true _ _ h).0 in
+    let low = le_of (size next) (size one) (and_true _ _ h).0 in
     let e : size verb ≡ size next = ap size same in omega arith
-behind_it one (next ∷ more) verb h (inr listed) = behind_it one more verb (both_true _ _ h).1 listed
+behind_it one (next ∷ more) verb h (inr listed) = behind_it one more verb (and_true _ _ h).1 listed
 
 found_passes : (p : Verb → Bool) (all : List Verb) (verb : Verb) → find p all ≡ Some verb → p verb ≡ true
 found_passes p [] verb is = absurd (cc is)
@@ -89,11 +86,11 @@ found_passes p (one ∷ more) verb is = by (p one) refl (λ rest. found_passes p
 
 found_greatest : (p : Verb → Bool) (all : List Verb) (verb other : Verb) → falls all ≡ true → find p all ≡ Some verb → Among other all → p other ≡ true → size other ≤ size verb
 found_greatest p [] verb other fall is listed passes = absurd listed
-found_greatest p (one ∷ more) verb other fall is listed passes = by (p one) refl listed (λ found rest. found_greatest p more verb other (both_true _ _ fall).1 found rest passes)
+found_greatest p (one ∷ more) verb other fall is listed passes = by (p one) refl listed (λ found rest. found_greatest p more verb other (and_true _ _ fall).1 found rest passes)
   where
     by : (b : Bool) → p one ≡ b → Among other (one ∷ more) → (find p more ≡ Some verb → Among other more → size other ≤ size verb) → size other ≤ size verb
     by true e (inl same) next = (let first : Some one ≡ Some verb = rw e at is in let it : one ≡ verb = cc first in let sizes : size other ≡ size verb = ap size (same ∙ it) in omega arith)
-    by true e (inr rest) next = (let first : Some one ≡ Some verb = rw e at is in let it : one ≡ verb = cc first in let low = behind_it one more other (both_true _ _ fall).0 rest in let sizes : size one ≡ size verb = ap size it in omega arith)
+    by true e (inr rest) next = (let first : Some one ≡ Some verb = rw e at is in let it : one ≡ verb = cc first in let low = behind_it one more other (and_true _ _ fall).0 rest in let sizes : size one ≡ size verb = ap size it in omega arith)
     by false e (inl same) next = absurd (cc (passes, e, ap p same))
     by false e (inr rest) next = next (rw e at is) rest
 
@@ -113,10 +110,10 @@ same_words [] (y ∷ ys) words h k e = absurd (omega arith)
 same_words (x ∷ xs) [] words h k e = absurd (omega arith)
 same_words (x ∷ xs) (y ∷ ys) [] h k e = absurd (cc h)
 same_words (x ∷ xs) (y ∷ ys) (word ∷ words) h k e =
-    let one = (bytes_eq-Decides word x).0 (both_true _ _ h).0 in
-    let other = (bytes_eq-Decides word y).0 (both_true _ _ k).0 in
+    let one = (bytes_eq-Decides word x).0 (and_true _ _ h).0 in
+    let other = (bytes_eq-Decides word y).0 (and_true _ _ k).0 in
     let first : x ≡ y = sym one ∙ other in
-    let rest = same_words xs ys words (both_true _ _ h).1 (both_true _ _ k).1 (omega arith) in
+    let rest = same_words xs ys words (and_true _ _ h).1 (and_true _ _ k).1 (omega arith) in
     ap (λ z. z ∷ xs) first ∙ ap (λ zs. y ∷ zs) rest
 
 pub named_is : (words : List (List ℕ)) (verb : Verb) → verb_of words ≡ Some verb → Names words verb

@@ -1,5 +1,5 @@
 -- Words cut at a byte.
-use Rattle.std.proofs.Common.{◌≡◌, ℕ, zero, suc, ◌+◌, ◌-◌, ◌<◌, ◌≤◌, List, [], ◌∷◌, ◌++◌, Bool, true, false, ◌&&◌, All, length, take, drop, get_or, nat_eq, None, refl, sym, ap, ◌∙◌, arith, length-drop, add-one}
+use Rattle.std.proofs.Common.{◌≡◌, ℕ, zero, suc, ◌+◌, ◌-◌, ◌<◌, ◌≤◌, List, [], ◌∷◌, ◌++◌, true, false, All, length, take, drop, get_or, nat_eq, None, refl, sym, ap, ◌∙◌, arith, length-drop, add-one}
 use Rattle.std.specs.List.{list_all, slice_split}
 use Rattle.std.specs.Str.{IsAscii, IsUtf8}
 use Rattle.std.proofs.lemmas.Bool.Decides.{nat_tests}
@@ -8,6 +8,7 @@ use Rattle.std.proofs.lemmas.List.Elements.{All-more}
 use Rattle.std.proofs.lemmas.List.Splits.{slice_split_at, slice_split_none, length-slice_split}
 use Rattle.std.proofs.lemmas.Str.{IsUtf8-from_ascii}
 use Rattle.std.proofs.Math.Seq.{drop-cons}
+use Rattle.pd_types.proofs.Bools.{and_true}
 use Rattle.pd_lines.specs.Labels.{label_by, label_of}
 use Rattle.pd_lines.specs.Plain.{is_plain_byte}
 
@@ -15,15 +16,10 @@ use Rattle.pd_lines.specs.Plain.{is_plain_byte}
 plain_low : (b : ℕ) → is_plain_byte b ≡ true → b < 128
 plain_low b plain = grind (arith, nat_tests)
 
-pub both_true : (a b : Bool) → (a && b) ≡ true → (a ≡ true) × (b ≡ true)
-both_true true true e = (refl, refl)
-both_true true false e = cc
-both_true false b e = cc
-
 plain_ascii : (word : List ℕ) → list_all is_plain_byte word ≡ true → IsAscii word
 plain_ascii [] e i = omega arith
-plain_ascii (b ∷ bs) e zero = plain_low b (both_true (is_plain_byte b) (list_all is_plain_byte bs) e).0
-plain_ascii (b ∷ bs) e (suc i) = plain_ascii bs (both_true (is_plain_byte b) (list_all is_plain_byte bs) e).1 i
+plain_ascii (b ∷ bs) e zero = plain_low b (and_true (is_plain_byte b) (list_all is_plain_byte bs) e).0
+plain_ascii (b ∷ bs) e (suc i) = plain_ascii bs (and_true (is_plain_byte b) (list_all is_plain_byte bs) e).1 i
 
 pub plain_utf8 : (word : List ℕ) → list_all is_plain_byte word ≡ true → IsUtf8 word
 plain_utf8 word e = IsUtf8-from_ascii word (plain_ascii word e)

@@ -14,7 +14,7 @@ use Rattle.pd_types.specs.declared.store.Label.{Label}
 use Rattle.pd_types.proofs.Pairs.{pairs_head, pairs_tail}
 use Rattle.pd_lines.specs.Labels.{AreLabels, has_key, label_by, label_of, label_text, labels_from, labels_of, labels_text, with_label}
 use Rattle.pd_lines.specs.Plain.{is_plain, is_plain_byte}
-use Rattle.pd_lines.proofs.Cutting.{both_true}
+use Rattle.pd_types.proofs.Bools.{and_true}
 
 -- what a test lets through
 pub when_some : {A : Type 0} (b : Bool) (x y : A) → cond {A = Option A} b (Some x) None ≡ Some y → (b ≡ true) × (x ≡ y)
@@ -42,7 +42,7 @@ label_ok [] label is = no_some label _ is
 label_ok (key ∷ []) label is = no_some label _ is
 label_ok (key ∷ value ∷ []) label is =
     let passed = when_some (is_plain 32 key && is_plain 32 value) (record { key = key; value = value }) label is in
-    let both = both_true (is_plain 32 key) (is_plain 32 value) passed.0 in
+    let both = and_true (is_plain 32 key) (is_plain 32 value) passed.0 in
     (subst IsLabel passed.1 (record { key = both.0; value = both.1 }), ap (λ (one : Label). one.key ∷ one.value ∷ []) passed.1)
 label_ok (key ∷ value ∷ more ∷ rest) label is = no_some label _ is
 
@@ -62,7 +62,7 @@ one_more earlier label good fine less none = record {
 with_ok : (earlier : List Label) (label : Label) (l : List Label) → AreLabels earlier → IsLabel label → with_label earlier label ≡ Some l → AreLabels l × (earlier ++ label ∷ [] ≡ l)
 with_ok earlier label l good fine is =
     let passed = when_some (nat_lt (length earlier) 4 && not (has_key label.key earlier)) (earlier ++ label ∷ []) l is in
-    let both = both_true (nat_lt (length earlier) 4) (not (has_key label.key earlier)) passed.0 in
+    let both = and_true (nat_lt (length earlier) 4) (not (has_key label.key earlier)) passed.0 in
     (subst AreLabels passed.1 (one_more earlier label good fine (grind (arith, nat_tests, both.0)) (not_false (has_key label.key earlier) both.1)), passed.1)
 
 pub no_labels : AreLabels []
@@ -115,7 +115,7 @@ Lacks byte word = All (λ b. nat_eq b byte ≡ false) word
 plain_lacks : (byte : ℕ) → is_plain_byte byte ≡ false → (word : List ℕ) → list_all is_plain_byte word ≡ true → Lacks byte word
 plain_lacks byte other [] plain = All-nil (λ b. nat_eq b byte ≡ false)
 plain_lacks byte other (b ∷ bs) plain =
-    let both = both_true (is_plain_byte b) (list_all is_plain_byte bs) plain in
+    let both = and_true (is_plain_byte b) (list_all is_plain_byte bs) plain in
     All-cons (λ c. nat_eq c byte ≡ false) b bs (by (nat_eq b byte) refl both.0) (plain_lacks byte other bs both.1)
   where
     by : (t : Bool) → nat_eq b byte ≡ t → is_plain_byte b ≡ true → t ≡ false
@@ -123,7 +123,7 @@ plain_lacks byte other (b ∷ bs) plain =
     by false same plain = refl
 
 pub all_plain : (most : ℕ) (word : List ℕ) → is_plain most word ≡ true → list_all is_plain_byte word ≡ true
-all_plain most word is = (both_true (nat_lt 0 (length word) && nat_le (length word) most) (list_all is_plain_byte word) is).1
+all_plain most word is = (and_true (nat_lt 0 (length word) && nat_le (length word) most) (list_all is_plain_byte word) is).1
 
 label_lacks : (byte : ℕ) → is_plain_byte byte ≡ false → nat_eq 61 byte ≡ false → (label : Label) → IsLabel label → Lacks byte (label_text label)
 label_lacks byte other equals label fine =

@@ -42,7 +42,3 @@ pub then_read : {A B : Type 0} (r : Result A Reason) (next : A → Result B Reas
 then_read (Ok a) next b is = (a, refl, is)
 then_read (Err reason) next b is = no_fine reason b is
 
-pub both_true : (a b : Bool) → (a && b) ≡ true → (a ≡ true) × (b ≡ true)
-both_true true true is = (refl, refl)
-both_true true false is = cc
-both_true false b is = cc

@@ -1,6 +1,5 @@
 -- From what a command of pd-ctl did over a door to what is said of the request.
-use Rattle.std.proofs.Common.{refl, IfOk, ◌≡◌, ℕ, max, Bool, true, false, cond, nat_eq, List, [], ◌∷◌, ◌++◌, ap, sym, ◌∙◌, subst, Option, Some, None, arith}
-use Rattle.std.proofs.lemmas.Bool.Decides.{nat_tests}
+use Rattle.std.proofs.Common.{refl, IfOk, ◌≡◌, ℕ, max, false, List, [], ◌∷◌, ◌++◌, ap, sym, ◌∙◌, subst, Option, Some, None}
 use Rattle.std.specs.Option.{option_map}
 use Rattle.std.specs.Prelude.{Result, Ok, Err, codes}
 use Rattle.pd_types.specs.declared.memory.NoMemory.{NoMemory}
@@ -51,6 +50,7 @@ use Rattle.pd_state.specs.declared.wishing.Asker.{Asker}
 use Rattle.pd_state.proofs.Asking.{talks_done, talks_then}
 use Rattle.pd_state.proofs.Carried.{at_moment}
 use Rattle.pd_state.proofs.Deeds.{did, did_ask, talks_write}
+use Rattle.pd_state.proofs.Deleted.{found_id}
 use Rattle.pd_state.proofs.Scheduled.{deed_at, work_does}
 
 -- a deed that asks nothing
@@ -66,17 +66,6 @@ pub by_state : (state : StoreState) (rec : StoreRec) (other : Reply) → deletio
 by_state states.Up rec other is = absurd cc
 by_state states.Offline rec other is = absurd cc
 by_state states.Tombstone rec other is = refl
-
-same_id : (a b : ℕ) → nat_eq a b ≡ true → a ≡ b
-same_id a b h = grind (arith, nat_tests)
-
-found_id : (id : ℕ) (stores : List StoreEntry) (entry : StoreEntry) → entry_at id stores ≡ Some entry → entry.store.id ≡ id
-found_id id [] entry is = absurd cc
-found_id id (one ∷ stores) entry is = by (nat_eq one.store.id id) refl is (found_id id stores entry)
-  where
-    by : (t : Bool) → nat_eq one.store.id id ≡ t → cond t (Some one) (entry_at id stores) ≡ Some entry → (entry_at id stores ≡ Some entry → entry.store.id ≡ id) → entry.store.id ≡ id
-    by true here h rest = let same : one ≡ entry = cc in ap (λ (e : StoreEntry). e.store.id) (sym same) ∙ same_id one.store.id id here
-    by false here h rest = rest h
 
 alive_state : (state : StoreState) (old rec : StoreRec) → deletion_by state old ≡ Ok rec → (known_refusal (Some state) ≡ None) × (rec.id ≡ old.id)
 alive_state states.Up old rec is = (refl, let same : offline old ≡ rec = cc in ap (λ (r : StoreRec). r.id) (sym same))

@@ -1,8 +1,8 @@
 -- What a command of pd-ctl leaves of a store's state: it is as it was, or Offline, where the command deletes the store and it was no tombstone.
-use Rattle.std.proofs.Common.{refl, ◌≡◌, ◌≢◌, ℕ, Bool, true, false, cond, nat_eq, List, [], ◌∷◌, ap, sym, ◌∙◌, subst, Option, Some, None, ◌⊎◌, inl, inr, arith}
-use Rattle.std.proofs.lemmas.Bool.Decides.{nat_tests}
+use Rattle.std.proofs.Common.{refl, ◌≡◌, ◌≢◌, ℕ, Bool, true, false, cond, nat_eq, List, [], ◌∷◌, ap, sym, ◌∙◌, subst, Option, Some, None, ◌⊎◌, inl, inr}
 use Rattle.std.specs.Option.{option_map}
 use Rattle.std.specs.Prelude.{Result, Ok, Err}
+use Rattle.pd_types.proofs.Numbers.{other_number, same_number}
 use Rattle.pd_types.specs.declared.store.StoreState.{StoreState}
 use Rattle.pd_types.specs.declared.store.StoreState.TheVariants.{Up, Offline, Tombstone}
 use Rattle.store_table.specs.declared.entry.StoreEntry.{StoreEntry}
@@ -35,19 +35,13 @@ use Rattle.pd_state.proofs.Ends.{Ends, ends_any, ends_on, ends_or}
 abbrev pub Left : ℕ → Result Command CtlFault → List StoreEntry → List StoreEntry → Type 0
 Left store told before after = (state_at store after ≡ state_at store before) ⊎ ((names_store store told ≡ true) × (state_at store after ≡ Some Offline) × (has_tombstone (state_at store before) ≡ false))
 
-same_id : (a b : ℕ) → nat_eq a b ≡ true → a ≡ b
-same_id a b h = grind (arith, nat_tests)
-
-other_id : (a b : ℕ) → nat_eq a b ≡ false → b ≢ a
-other_id a b h k = grind (arith, nat_tests)
-
 -- a store that is found has the id that was looked for
-found_id : (id : ℕ) (stores : List StoreEntry) (entry : StoreEntry) → entry_at id stores ≡ Some entry → entry.store.id ≡ id
+pub found_id : (id : ℕ) (stores : List StoreEntry) (entry : StoreEntry) → entry_at id stores ≡ Some entry → entry.store.id ≡ id
 found_id id [] entry is = absurd cc
 found_id id (one ∷ stores) entry is = by (nat_eq one.store.id id) refl is (found_id id stores entry)
   where
     by : (t : Bool) → nat_eq one.store.id id ≡ t → cond t (Some one) (entry_at id stores) ≡ Some entry → (entry_at id stores ≡ Some entry → entry.store.id ≡ id) → entry.store.id ≡ id
-    by true here h rest = let same : one ≡ entry = cc in ap (λ (e : StoreEntry). e.store.id) (sym same) ∙ same_id one.store.id id here
+    by true here h rest = let same : one ≡ entry = cc in ap (λ (e : StoreEntry). e.store.id) (sym same) ∙ same_number one.store.id id here
     by false here h rest = rest h
 
 module _ (around : Around) (planning : Planning) (store : ℕ) where
@@ -56,14 +50,14 @@ module _ (around : Around) (planning : Planning) (store : ℕ) where
 
   offline_left : (id : ℕ) (entry : StoreEntry) (t : Bool) → nat_eq id store ≡ t → entry_at id around.stores ≡ Some entry → is_tombstone entry.store.state ≡ false → Left store (Ok (commands.StoreDelete id)) around.stores (changed id (in_state Offline) around.stores)
   offline_left id entry true here found alive =
-      let at : entry_at store around.stores ≡ Some entry = ap (λ (n : ℕ). entry_at n around.stores) (sym (same_id id store here)) ∙ found in
+      let at : entry_at store around.stores ≡ Some entry = ap (λ (n : ℕ). entry_at n around.stores) (sym (same_number id store here)) ∙ found in
       inr (
         here,
-        ap (λ (n : ℕ). state_at store (changed n (in_state Offline) around.stores)) (same_id id store here)
+        ap (λ (n : ℕ). state_at store (changed n (in_state Offline) around.stores)) (same_number id store here)
             ∙ ap (option_map (λ (e : StoreEntry). e.store.state)) (entry_changed store (in_state Offline) around.stores (λ e. refl) ∙ ap (option_map (in_state Offline)) at),
         ap (λ (o : Option StoreEntry). has_tombstone (option_map (λ (e : StoreEntry). e.store.state) o)) at ∙ alive,
       )
-  offline_left id entry false here found alive = inl (ap (option_map (λ (e : StoreEntry). e.store.state)) (entry_kept id store (in_state Offline) around.stores (λ e. refl) (other_id id store here)))
+  offline_left id entry false here found alive = inl (ap (option_map (λ (e : StoreEntry). e.store.state)) (entry_kept id store (in_state Offline) around.stores (λ e. refl) (other_number id store here)))
 
   verdict_left : (id : ℕ) (entry : StoreEntry) (verdict : MetaVerdict) → entry_at id around.stores ≡ Some entry → is_tombstone entry.store.state ≡ false → DeedLeft (Ok (commands.StoreDelete id)) (deleted_by around planning entry.store.id verdict)
   verdict_left id entry (verdicts.Accepted revision) found alive =

@@ -27,9 +27,9 @@ use Rattle.pd_state.specs.declared.entry.Entry.{Entry}
 use Rattle.pd_state.specs.declared.part.Part.{Part}
 use Rattle.pd_state.specs.declared.sent.Sent.{Sent}
 use Rattle.pd_state.proofs.Ends.{Ends, ends_any, ends_if, ends_on, ends_or}
-use Rattle.std.proofs.lemmas.Bool.Decides.{nat_tests}
 use Rattle.std.proofs.lemmas.List.{get_or_default}
 use Rattle.std.specs.List.{cons_option, filter_map}
+use Rattle.pd_types.proofs.Numbers.{equal, same_number}
 use Rattle.op_control.specs.Table.{active_at, answered_by}
 use Rattle.op_control.proofs.SendLemmas.{answer-safe}
 use Rattle.region_tree.specs.Standing.{AreApart, IsTable, table_of}
@@ -138,15 +138,12 @@ told_safe around beat planning (Plans class list from to) at here =
     ends_on Work Deed (WorkSafe around) (DeedSafe around) (λ work. done (planned around class from to work)) (add_op around (check_op beat list) beat planning at)
     (add_safe (refusal_of planning.operators (check_op beat list) (Some beat) planning.limits around.now) around (check_op beat list) beat planning at here) (λ work then h. h)
 
-same_id : (a b : ℕ) → nat_eq a b ≡ true → a ≡ b
-same_id a b h = grind (arith, nat_tests)
-
 found_id : (region : ℕ) (held : List RegionBeat) (beat : RegionBeat) → region_in region held ≡ Some beat → beat.region.id ≡ region
 found_id region [] beat h = absurd cc
 found_id region (one ∷ held) beat h = by (nat_eq one.region.id region) refl h (found_id region held beat)
   where
     by : (t : Bool) → nat_eq one.region.id region ≡ t → cond t (Some one) (region_in region held) ≡ Some beat → (region_in region held ≡ Some beat → beat.region.id ≡ region) → beat.region.id ≡ region
-    by true is e rest = let same : one ≡ beat = cc in ap (λ (b : RegionBeat). b.region.id) (sym same) ∙ same_id one.region.id region is
+    by true is e rest = let same : one ≡ beat = cc in ap (λ (b : RegionBeat). b.region.id) (sym same) ∙ same_number one.region.id region is
     by false is e rest = rest e
 
 check_safe : (around : Around) (region : ℕ) (planning : Planning) (o : Option RegionBeat) (at : Hearing) → region_in region around.held ≡ o → Ends Deed (DeedSafe around) (check_held around planning o at)
@@ -217,10 +214,7 @@ patrolled_safe part moment answers found =
 found_at : (held : List RegionBeat) → AreApart held → (k : ℕ) (d : RegionBeat) → k < length held → region_in (get_or held k d).region.id held ≡ Some (get_or held k d)
 found_at held apart k d low =
     sym (own_found held k (get_or held k d).region.id (get_or held k d) d apart
-    (low, λ other. same_self (get_or held k other).region.id (get_or held k d).region.id (ap (λ (b : RegionBeat). b.region.id) (get_or_default held k other d low))) refl)
-  where
-    same_self : (a b : ℕ) → a ≡ b → nat_eq a b ≡ true
-    same_self a b h = grind (arith, nat_tests)
+    (low, λ other. equal (get_or held k other).region.id (get_or held k d).region.id (ap (λ (b : RegionBeat). b.region.id) (get_or_default held k other d low))) refl)
 
 found_all : (held beats : List RegionBeat) → ((k : ℕ) (d : RegionBeat) → k < length beats → region_in (get_or beats k d).region.id held ≡ Some (get_or beats k d)) → AreFound held beats
 found_all held [] h = tt

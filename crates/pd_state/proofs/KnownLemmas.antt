@@ -5,6 +5,7 @@ use Rattle.std.proofs.lemmas.List.Elements.{All-append, filter_passes}
 use Rattle.std.proofs.lemmas.List.Kept.{AllPairs-cons, AllPairs-filter}
 use Rattle.std.specs.List.{All, AllPairs, filter, list_any}
 use Rattle.std.specs.Option.{is_some, option_map}
+use Rattle.pd_types.proofs.Numbers.{other_number, same_number}
 use Rattle.pd_types.specs.declared.request.Request.{Request}
 use Rattle.pd_types.specs.declared.request.Request.TheVariants as ask
 use Rattle.pd_types.specs.declared.store.Label.{Label}
@@ -56,12 +57,6 @@ with_other id rec recs other =
 kept_id : (o : Option StoreRec) (rec : StoreRec) → (kept_state o rec).id ≡ rec.id
 kept_id None rec = refl
 kept_id (Some known) rec = refl
-
-pub same_id : (a b : ℕ) → nat_eq a b ≡ true → a ≡ b
-same_id a b h = grind (arith, nat_tests)
-
-pub other_id : (a b : ℕ) → nat_eq a b ≡ false → b ≢ a
-other_id a b h k = grind (arith, nat_tests)
 
 -- the record of a store after an accepted hello of it, and of another
 hello_own : (rec : StoreRec) (recs : List StoreRec) (store : ℕ) → rec.id ≡ store → record_at store (with_record (kept_state (record_at rec.id recs) rec) recs) ≡ Some (kept_state (record_at rec.id recs) rec)
@@ -139,8 +134,8 @@ hello_knows : (p : Reply) (at moment : ℕ) (address : List ℕ) (labels : List 
 hello_knows replies.StorePut at moment address labels recs store b h = by (nat_eq at store) refl
   where
     by : (t : Bool) → nat_eq at store ≡ t → is_some (record_at store (with_record (kept_state (record_at at recs) (greeting at address labels)) recs)) ≡ t || b
-    by true is = ap is_some (hello_own (greeting at address labels) recs store (same_id at store is))
-    by false is = ap is_some (hello_other (greeting at address labels) recs store (other_id at store is)) ∙ h
+    by true is = ap is_some (hello_own (greeting at address labels) recs store (same_number at store is))
+    by false is = ap is_some (hello_other (greeting at address labels) recs store (other_number at store is)) ∙ h
 hello_knows p at moment address labels recs store b h = h
 
 -- a patrol leaves which stores are known
@@ -246,11 +241,11 @@ told_hello e entries at moment address labels replies.StorePut asked put told st
 
     by : (t : Bool) → nat_eq at store ≡ t → ToldOne (e ∷ entries) store rec
     by true is =
-        let id : at ≡ store = same_id at store is in
+        let id : at ≡ store = same_number at store is in
         inl (own_hello e entries at moment address labels store rec asked put id (some_same _ rec (sym (hello_own (greeting at address labels) (records_of entries) store id) ∙ found)))
     by false is =
         told_before e entries store rec (says ∙ is) (ap (λ (r : Request). begun_with r (handed_out e.answers) (handed_to entries)) asked)
-        (told store rec (sym (hello_other (greeting at address labels) (records_of entries) store (other_id at store is)) ∙ found))
+        (told store rec (sym (hello_other (greeting at address labels) (records_of entries) store (other_number at store is)) ∙ found))
 told_hello e entries at moment address labels p asked put told store rec found =
     told_before e entries store rec (ap (λ (r : Request). greets store r e.reply) asked ∙ ap (λ (q : Reply). where_put q (nat_eq at store)) put) (ap (λ (r : Request). begun_with r (handed_out e.answers) (handed_to entries)) asked) (told store rec found)
 
@@ -340,8 +335,8 @@ hello_none : (p : Reply) (at moment : ℕ) (address : List ℕ) (labels : List L
 hello_none replies.StorePut at moment address labels recs store none = by (nat_eq at store) refl
   where
     by : (t : Bool) → nat_eq at store ≡ t → is_some (record_at store recs) ≡ false
-    by true is = absurd (let both : true ≡ false = sym (ap is_some (hello_own (greeting at address labels) recs store (same_id at store is))) ∙ none in cc)
-    by false is = sym (ap is_some (hello_other (greeting at address labels) recs store (other_id at store is))) ∙ none
+    by true is = absurd (let both : true ≡ false = sym (ap is_some (hello_own (greeting at address labels) recs store (same_number at store is))) ∙ none in cc)
+    by false is = sym (ap is_some (hello_other (greeting at address labels) recs store (other_number at store is))) ∙ none
 hello_none p at moment address labels recs store none = none
 
 no_tomb : (stores : List StoreEntry) (store : ℕ) → is_some (record_at store (map (λ (entry : StoreEntry). entry.store) stores)) ≡ false → has_tombstone (state_at store stores) ≡ false
@@ -421,12 +416,12 @@ state_hello entries at moment address labels replies.StorePut part before store 
   where
     by : (t : Bool) → nat_eq at store ≡ t → rec.state ≡ state_now (is_entombed store entries) (is_deleted store entries) (record_at store (stores_told (handed_to entries)))
     by true is =
-        let id : at ≡ store = same_id at store is in
+        let id : at ≡ store = same_number at store is in
         let rec_is : kept_state (record_at at (records_of entries)) (greeting at address labels) ≡ rec = some_same _ rec (sym (hello_own (greeting at address labels) (records_of entries) store id) ∙ found) in
         let own = state_own (record_at at (records_of entries)) (record_at at (stores_told (handed_to entries))) (greeting at address labels) (is_entombed at entries) (is_deleted at entries) refl (λ none. or_none (list_any (is_hello at) entries) _ (sym none ∙ known_all entries part at))
         (entombed_all entries part at) (deleted_all entries part at) (before at) in
         sym (ap (λ (x : StoreRec). x.state) rec_is) ∙ own ∙ ap (λ n. state_now (is_entombed n entries) (is_deleted n entries) (record_at n (stores_told (handed_to entries)))) id
-    by false is = before store rec (sym (hello_other (greeting at address labels) (records_of entries) store (other_id at store is)) ∙ found)
+    by false is = before store rec (sym (hello_other (greeting at address labels) (records_of entries) store (other_number at store is)) ∙ found)
 state_hello entries at moment address labels p part before store rec found = before store rec found
 
 state_found : (stores : List StoreEntry) (store : ℕ) (rec : StoreRec) → record_at store (map (λ (entry : StoreEntry). entry.store) stores) ≡ Some rec → state_at store stores ≡ Some rec.state

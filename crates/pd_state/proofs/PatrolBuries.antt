@@ -6,6 +6,7 @@ use Rattle.std.proofs.lemmas.List.Elements.{All-cons, All-nil}
 use Rattle.std.proofs.lemmas.List.Kept.{AllPairs-cons}
 use Rattle.std.specs.List.{All, AllPairs, filter}
 use Rattle.std.specs.Option.{option_map}
+use Rattle.pd_types.proofs.Numbers.{same_number}
 use Rattle.pd_types.specs.declared.region.RegionBeat.{RegionBeat}
 use Rattle.pd_types.specs.declared.store.StoreRec.{StoreRec}
 use Rattle.pd_types.specs.declared.store.StoreState.{StoreState}
@@ -94,9 +95,6 @@ count_rest e es more h = by (is_dead e)
 some_state : (a b : StoreState) → Some a ≡ Some b → a ≡ b
 some_state a b h = cc
 
-same_num : (a b : ℕ) → nat_eq a b ≡ true → a ≡ b
-same_num a b h = grind (arith, nat_tests)
-
 one_more : (id : ℕ) (stores : List StoreEntry) → AreRising stores → state_at id stores ≡ Some Offline → tombstones (changed id (in_state Tombstone) stores) ≡ tombstones stores + 1
 one_more id [] h off = absurd cc
 one_more id (e ∷ es) h off = by (nat_eq e.store.id id) refl off (λ rest. one_more id es (pairs_rest Lesser e es h) rest)
@@ -104,7 +102,7 @@ one_more id (e ∷ es) h off = by (nat_eq e.store.id id) refl off (λ rest. one_
     by : (t : Bool) → nat_eq e.store.id id ≡ t → option_map (λ (entry : StoreEntry). entry.store.state) (cond t (Some e) (entry_at id es)) ≡ Some Offline
         → (state_at id es ≡ Some Offline → tombstones (changed id (in_state Tombstone) es) ≡ tombstones es + 1) → tombstones (cond t (in_state Tombstone e) e ∷ changed id (in_state Tombstone) es) ≡ tombstones (e ∷ es) + 1
     by true is here more =
-        let rest : changed id (in_state Tombstone) es ≡ es = unchanged id es (subst (λ (k : ℕ). All (λ (x : StoreEntry). k < x.store.id) es) (same_num e.store.id id is) (pairs_head Lesser e es h)) in
+        let rest : changed id (in_state Tombstone) es ≡ es = unchanged id es (subst (λ (k : ℕ). All (λ (x : StoreEntry). k < x.store.id) es) (same_number e.store.id id is) (pairs_head Lesser e es h)) in
         ap (λ (l : List StoreEntry). tombstones (in_state Tombstone e ∷ l)) rest ∙ count_new e es (some_state e.store.state Offline here)
     by false is there more = count_rest e es (changed id (in_state Tombstone) es) (more there)
 
@@ -213,7 +211,7 @@ bury_ends around (rec ∷ recs) burial at may apart off rise =
 
 -- which stores those are
 count_zero : (state : StoreState) (n : ℕ) → grave_by state n ≡ true → n ≡ 0
-count_zero Offline n h = same_num n 0 h
+count_zero Offline n h = same_number n 0 h
 count_zero Up n h = absurd cc
 count_zero Tombstone n h = absurd cc
 
@@ -228,7 +226,7 @@ graves_empty held (e ∷ es) = by (is_grave held e.store) refl (graves_empty hel
 
 -- each store that may be buried is among them
 dead_first : (stores : List StoreEntry) (e : StoreEntry) (rest : List StoreRec) (id : ℕ) → nat_eq e.store.id id ≡ true → All (λ (rec : StoreRec). state_at rec.id stores ≡ Some Tombstone) (tombstone e.store ∷ rest) → state_at id stores ≡ Some Tombstone
-dead_first stores e rest id same all = subst (λ (k : ℕ). state_at k stores ≡ Some Tombstone) (same_num e.store.id id same) (all 0 (tombstone e.store) (omega arith))
+dead_first stores e rest id same all = subst (λ (k : ℕ). state_at k stores ≡ Some Tombstone) (same_number e.store.id id same) (all 0 (tombstone e.store) (omega arith))
 
 grave_is : (held : List RegionBeat) (e : StoreEntry) → e.store.state ≡ Offline → region_count e.store.id held ≡ 0 → is_grave held e.store ≡ true
 grave_is held e off none = ap (λ (s : StoreState). grave_by s (region_count e.store.id held)) off ∙ ap (λ (n : ℕ). nat_eq n 0) none
@@ -243,7 +241,7 @@ graves_all held (e ∷ es) after id off none all =
         → (state_at id es ≡ Some Offline → All (λ (rec : StoreRec). state_at rec.id after ≡ Some Tombstone) (graves_of held es) → state_at id after ≡ Some Tombstone) → state_at id after ≡ Some Tombstone
     by true true same is here dead more = dead_first after e (graves_of held es) id same dead
     by true false same is here dead more =
-        absurd (let yes : is_grave held e.store ≡ true = grave_is held e (some_state e.store.state Offline here) (ap (λ (k : ℕ). region_count k held) (same_num e.store.id id same) ∙ none) in let both : true ≡ false = sym yes ∙ is in cc)
+        absurd (let yes : is_grave held e.store ≡ true = grave_is held e (some_state e.store.state Offline here) (ap (λ (k : ℕ). region_count k held) (same_number e.store.id id same) ∙ none) in let both : true ≡ false = sym yes ∙ is in cc)
     by false true same is there dead more = more there (λ k d low. dead (suc k) d (omega (arith, low)))
     by false false same is there dead more = more there dead
 

@@ -5,6 +5,7 @@ use Rattle.std.proofs.lemmas.List.{length-append}
 use Rattle.std.proofs.lemmas.List.Elements.{All-cons}
 use Rattle.std.specs.List.{cons_option}
 use Rattle.std.specs.List.{All, Any}
+use Rattle.pd_types.proofs.Numbers.{other_number, same_number}
 use Rattle.pd_types.specs.declared.store.StoreRec.{StoreRec}
 use Rattle.pd_types.specs.Keys.{is_below}
 use Rattle.pd_types.proofs.KeyLemmas.{not_below_itself}
@@ -15,7 +16,7 @@ use Rattle.meta_store.specs.Stores.{store_key}
 use Rattle.meta_store.proofs.Stored.{store_read}
 use Rattle.pd_state.specs.HandedOut.{record_at, store_in, store_more, stores_told, with_record}
 use Rattle.pd_state.specs.Known.{AreTold}
-use Rattle.pd_state.proofs.KnownLemmas.{other_id, same_id, some_same, with_other, with_own}
+use Rattle.pd_state.proofs.KnownLemmas.{some_same, with_other, with_own}
 
 abbrev more : List StoreRec → Cell → List StoreRec
 more recs cell = store_more (store_in cell) recs
@@ -28,8 +29,8 @@ from_with : (store : ℕ) (x rec : StoreRec) (recs : List StoreRec) → record_a
 from_with store x rec recs found = by (nat_eq x.id store) refl
   where
     by : (t : Bool) → nat_eq x.id store ≡ t → (Some x ≡ Some rec) ⊎ (record_at store recs ≡ Some rec)
-    by true is = inl (sym (with_own x recs) ∙ ap (λ n. record_at n (with_record x recs)) (same_id x.id store is) ∙ found)
-    by false is = inr (sym (with_other store x recs (other_id x.id store is)) ∙ found)
+    by true is = inl (sym (with_own x recs) ∙ ap (λ n. record_at n (with_record x recs)) (same_number x.id store is) ∙ found)
+    by false is = inr (sym (with_other store x recs (other_number x.id store is)) ∙ found)
 
 from_more : (o : Option StoreRec) (store : ℕ) (rec : StoreRec) (recs : List StoreRec) → record_at store (store_more o recs) ≡ Some rec → (o ≡ Some rec) ⊎ (record_at store recs ≡ Some rec)
 from_more None store rec recs found = inr found

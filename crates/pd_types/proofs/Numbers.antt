@@ -12,6 +12,9 @@ equal a b h = grind (arith, nat_tests)
 pub differ : (a b : ℕ) → a ≢ b → nat_eq a b ≡ false
 differ a b h = grind (arith, nat_tests)
 
+pub other_number : (a b : ℕ) → nat_eq a b ≡ false → b ≢ a
+other_number a b h k = grind (arith, nat_tests)
+
 pub less : (a b : ℕ) → a < b → nat_lt a b ≡ true
 less a b h = grind (arith, nat_tests)
 
