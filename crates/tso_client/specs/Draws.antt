@@ -9,16 +9,13 @@ use Rattle.tso_model.specs.declared.view.View.{View}
 use Rattle.tso_model.specs.Words.{passes}
 use Rattle.tso_model.specs.History.{added_by}
 use Rattle.tso_model.specs.OneHistory.{IsAbove}
+use Rattle.tso_model.specs.Moves.{seen_of}
 use Rattle.tso_client.specs.declared.draw.DrawFault.{DrawFault}
 use Rattle.tso_client.specs.declared.draw.DrawFault.TheVariants.{NotLeader, Stale, Again}
 
 -- what a draw answers
 abbrev pub Answer : Type 0
 Answer = Result Batch DrawFault
-
--- the pair of a batch: its term and its last timestamp
-abbrev pub seen_of : Batch → Seen
-seen_of b = record { term = b.term; last = b.last }
 
 -- what the client has seen afterwards: the pair of its batch, or what it had seen
 abbrev pub seen_after : Answer → Seen → Seen

@@ -3,6 +3,7 @@ use Rattle.std.specs.Prelude.{◌≡◌, ℕ, true, Option, None, Some}
 use Rattle.pd_types.specs.declared.oracle.Batch.{Batch}
 use Rattle.pd_types.specs.declared.oracle.Seen.{Seen}
 use Rattle.tso_model.specs.Words.{passes}
+use Rattle.tso_model.specs.Moves.{seen_of}
 use Rattle.tso_core.specs.declared.reply.Due.{Due}
 use Rattle.tso_core.specs.declared.reply.Reply.{Reply}
 use Rattle.tso_core.specs.declared.reply.Reply.TheVariants.{Won, Moved, Got, Again, Heard, OutOfTurn, Claimed, Saved}
@@ -35,10 +36,6 @@ pub record Saying : Type 0 where
 -- nothing of all that
 abbrev pub nothing_said : Saying
 nothing_said = record { batch = None; refused = None; pair = None; windows = Stay; expected = None }
-
--- the pair of a batch: its term and its last timestamp
-abbrev pub seen_of : Batch → Seen
-seen_of b = record { term = b.term; last = b.last }
 
 -- the table
 abbrev pub says : Reply → Saying

@@ -13,7 +13,7 @@ use Rattle.tso_model.specs.declared.view.Setup.{Setup}
 use Rattle.tso_model.specs.declared.step.WordStep.TheVariants.{AddArmed}
 use Rattle.tso_model.specs.Words.{opening_claim, passes}
 use Rattle.tso_model.specs.Sound.{IsSetup, IsSeen, FitsB}
-use Rattle.tso_model.specs.Moves.{greater, nothing_seen, spent_view}
+use Rattle.tso_model.specs.Moves.{greater, nothing_seen, spent_view, seen_of}
 use Rattle.tso_model.specs.OneHistory.{IsAbove}
 use Rattle.tso_model.specs.Steps.{hand, batch_of, refused, granted, adds}
 use Rattle.tso_model.proofs.Basics.{by_bool, by_lt, in_order}
@@ -28,7 +28,7 @@ use Rattle.tso_core.specs.Whole.{Whole, place_of_client, view_at, turn_at, post_
 use Rattle.tso_core.specs.Steps.{Stepped, out_of_turn, due_of, due_at, move_of, step_of, read_of, probe_of, look_of, draw_of}
 use Rattle.tso_core.specs.Rows.{row, won, lead_of, tick_of, resigned_of, take_of}
 use Rattle.tso_core.specs.Notes.{tell_of, hear_of, heard_from, note_left}
-use Rattle.tso_core.specs.Says.{says, seen_of}
+use Rattle.tso_core.specs.Says.{says}
 use Rattle.tso_core.specs.Sound.{IsSound, HasDriver, HasClient}
 use Rattle.tso_core.specs.Asked.{HasActor, IsAsked, IsCount}
 use Rattle.tso_core.specs.Opened.{opened}

@@ -1,5 +1,6 @@
 -- How views come to be and end: making the oracle, splitting a driver, a client or a note off, and joining one view into another. None of them touches a word.
 use Rattle.std.specs.Prelude.{ℕ, zero, suc, ◌+◌, ◌-◌, ◌*◌, true, false, List, [], ◌∷◌, ◌++◌, None, replicate, max, cond, ◌==◌, nat_lt}
+use Rattle.pd_types.specs.declared.oracle.Batch.{Batch}
 use Rattle.pd_types.specs.declared.oracle.CellWord.{CellWord}
 use Rattle.pd_types.specs.declared.oracle.Seen.{Seen}
 use Rattle.pd_types.specs.declared.stamp.TheConstants.{LOGICAL}
@@ -95,6 +96,10 @@ client_view k c = record (blank k.cell) { client = c; quota = LOGICAL }
 -- the note that a client makes: what the client has seen, and nothing else
 abbrev pub new_note : View → View
 new_note v = record (blank v.opening) { seen = v.seen }
+
+-- the pair of a batch: its term and its last timestamp
+abbrev pub seen_of : Batch → Seen
+seen_of b = record { term = b.term; last = b.last }
 
 -- the greater of two seen pairs, by term and then last
 abbrev pub greater : Seen → Seen → Seen

@@ -7,7 +7,7 @@ use Rattle.pd_types.specs.declared.oracle.Seen.{Seen}
 use Rattle.tso_model.specs.declared.entries.Added.{Added}
 use Rattle.tso_model.specs.declared.view.View.{View}
 use Rattle.tso_model.specs.History.{added_at}
-use Rattle.tso_model.specs.Moves.{greater}
+use Rattle.tso_model.specs.Moves.{greater, seen_of}
 use Rattle.tso_model.proofs.Basics.{by_lt}
 use Rattle.tso_model.proofs.Sums.{total-append}
 use Rattle.tso_outcome.specs.declared.said.ClientSaid.{ClientSaid}
@@ -17,7 +17,6 @@ use Rattle.tso_client.specs.declared.draw.DrawFault.TheVariants.{NotLeader, Stal
 use Rattle.tso_driver.specs.Driving.{Keeps}
 use Rattle.tso_outcome.specs.Clients.{Client, Drew, ClientDid, seen_after, seen_by, got, got_by, asked, asked_by, posts, posted}
 use Rattle.tso_outcome.proofs.Passes.{pass_kept, ClientTold, grant_of, AddsAtMost}
-use Rattle.tso_client.specs.Draws.{seen_of}
 use Rattle.tso_model.specs.OneHistory.{IsAbove}
 
 pub map-append : {A B : Type 0} (f : A → B) (xs ys : List A) → map f (xs ++ ys) ≡ map f xs ++ map f ys

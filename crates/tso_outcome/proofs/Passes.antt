@@ -6,12 +6,12 @@ use Rattle.pd_types.specs.declared.oracle.Batch.{Batch}
 use Rattle.tso_model.specs.declared.entries.Grant.{Grant}
 use Rattle.tso_model.specs.declared.view.View.{View}
 use Rattle.tso_model.specs.History.{added_by}
-use Rattle.tso_model.specs.Moves.{greater}
+use Rattle.tso_model.specs.Moves.{greater, seen_of}
 use Rattle.tso_model.specs.OneHistory.{IsAbove}
 use Rattle.tso_model.proofs.Basics.{in_head}
 use Rattle.tso_driver.specs.Driving.{Keeps}
 use Rattle.tso_client.specs.declared.draw.DrawFault.TheVariants.{NotLeader, Stale, Again}
-use Rattle.tso_client.specs.Draws.{Answer, Took as HasTaken, grants_by, refusals_by, seen_of}
+use Rattle.tso_client.specs.Draws.{Answer, Took as HasTaken, grants_by, refusals_by}
 use Rattle.tso_outcome.specs.declared.said.ClientSaid.{ClientSaid}
 use Rattle.tso_outcome.specs.declared.said.ClientSaid.TheVariants.{Took, Told, Heard}
 use Rattle.tso_outcome.specs.Clients.{PassDid, got}

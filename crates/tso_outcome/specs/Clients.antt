@@ -3,12 +3,12 @@ use Rattle.std.specs.Prelude.{◌≡◌, ℕ, ◌+◌, ◌<◌, List, [], ◌∷
 use Rattle.pd_types.specs.declared.oracle.Batch.{Batch}
 use Rattle.pd_types.specs.declared.oracle.Seen.{Seen}
 use Rattle.tso_model.specs.declared.view.View.{View}
-use Rattle.tso_model.specs.Moves.{greater}
+use Rattle.tso_model.specs.Moves.{greater, seen_of}
 use Rattle.tso_board.specs.Told.{Met}
 use Rattle.tso_client.specs.declared.draw.DrawFault.TheVariants.{NotLeader, Stale, Again}
 use Rattle.tso_client.specs.declared.entry.PostEntry.{PostEntry}
 use Rattle.tso_client.specs.declared.entry.PostWhat.TheVariants.{Told as ToldThere, Heard as HeardThere, Nothing}
-use Rattle.tso_client.specs.Draws.{Took as HasTaken, seen_of}
+use Rattle.tso_client.specs.Draws.{Took as HasTaken}
 use Rattle.tso_outcome.specs.declared.said.ClientAnswer.{ClientAnswer}
 use Rattle.tso_outcome.specs.declared.said.ClientSaid.{ClientSaid}
 use Rattle.tso_outcome.specs.declared.said.ClientSaid.TheVariants.{Took, Told, Heard}
