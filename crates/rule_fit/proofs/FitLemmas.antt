@@ -7,7 +7,8 @@ use Rattle.rule_fit.specs.Sums.{sum_below}
 use Rattle.pd_types.specs.declared.region.Peer.{Peer}
 use Rattle.std.specs.List.{list_all}
 use Rattle.std.specs.Prelude.{IsTrue}
-use Rattle.rule_fit.specs.Ids.{chosen_by, is_peer}
+use Rattle.pd_types.specs.BeatCheck.{has_id}
+use Rattle.rule_fit.specs.Ids.{chosen_by}
 use Rattle.rule_fit.specs.Chosen.{wanted, capacity, size_of}
 use Rattle.rule_fit.specs.Certificate.{Lacks}
 use Rattle.rule_fit.specs.Assignment.{held, placed, IsAssignment, IsGreatest, Fits}
@@ -70,7 +71,7 @@ reached_few suits peers counts given reached chosen assigned closed left same =
     let three = capacity_same suits peers counts chosen (marked reached) same in
     omega arith
 
-pub reached_lack : (suits : ℕ → ℕ → Bool) (peers : List Peer) (counts : List ℕ) (given : List (Option ℕ)) (reached : List Bool) (ids : List ℕ) → IsAssignment suits (length peers) counts given → IsClosed suits (length peers) counts given reached → placed given ≢ length peers → ((p : ℕ) → p < length peers → chosen_by ids peers p ≡ marked reached p) → IsTrue (list_all (is_peer peers) ids) → Lacks suits peers counts ids
+pub reached_lack : (suits : ℕ → ℕ → Bool) (peers : List Peer) (counts : List ℕ) (given : List (Option ℕ)) (reached : List Bool) (ids : List ℕ) → IsAssignment suits (length peers) counts given → IsClosed suits (length peers) counts given reached → placed given ≢ length peers → ((p : ℕ) → p < length peers → chosen_by ids peers p ≡ marked reached p) → IsTrue (list_all (has_id peers) ids) → Lacks suits peers counts ids
 reached_lack suits peers counts given reached ids assigned closed left same inside =
     record {
       inside = inside;

@@ -3,10 +3,11 @@ use Rattle.std.proofs.Common.{ℕ, zero, suc, Bool, true, false, not, ◌||◌, 
 use Rattle.std.specs.List.{slice_get, list_any, list_all}
 use Rattle.std.proofs.lemmas.Bool.{cases_eq, cases_lt, eq-eqb, ne_eqb, or_right, and_parts, and_from, or_parts, eqb-false, eqb-true, not-true, true≢false}
 use Rattle.std.proofs.lemmas.Option.{slice_get-get_or}
+use Rattle.pd_types.specs.BeatCheck.{has_id}
 use Rattle.pd_types.specs.declared.region.Peer.{Peer}
 use Rattle.rule_fit.specs.Chosen.{listed}
 use Rattle.rule_fit.specs.Search.{marked}
-use Rattle.rule_fit.specs.Ids.{id_listed, chosen_by, AreApart, apart_test, is_peer}
+use Rattle.rule_fit.specs.Ids.{id_listed, chosen_by, AreApart, apart_test}
 use Rattle.rule_fit.proofs.Totals.{listed_push, or_false}
 
 -- the ids are those of the marked peers among the first k
@@ -68,18 +69,18 @@ all_push p (x ∷ xs) y all passes =
     and_from (p x) (list_all p (xs ++ y ∷ [])) parts.0 (all_push p xs y parts.1 passes)
 
 -- the id of a peer at a place is put at the end
-pub peer_push : (d : Peer) (peers : List Peer) (ids : List ℕ) (k : ℕ) → k < length peers → list_all (is_peer peers) ids ≡ true → list_all (is_peer peers) (ids ++ (get_or peers k d).id ∷ []) ≡ true
+pub peer_push : (d : Peer) (peers : List Peer) (ids : List ℕ) (k : ℕ) → k < length peers → list_all (has_id peers) ids ≡ true → list_all (has_id peers) (ids ++ (get_or peers k d).id ∷ []) ≡ true
 peer_push d peers ids k below inside =
-    all_push (is_peer peers) ids (get_or peers k d).id inside (any_at (λ (peer : Peer). eqb peer.id (get_or peers k d).id) peers k d below (eq-eqb (get_or peers k d).id (get_or peers k d).id refl))
+    all_push (has_id peers) ids (get_or peers k d).id inside (any_at (λ (peer : Peer). eqb peer.id (get_or peers k d).id) peers k d below (eq-eqb (get_or peers k d).id (get_or peers k d).id refl))
 
-other_id : (peers : List Peer) (id : ℕ) (j : ℕ) (b : Peer) → is_peer peers id ≡ false → slice_get peers j ≡ Some b → b.id ≢ id
+other_id : (peers : List Peer) (id : ℕ) (j : ℕ) (b : Peer) → has_id peers id ≡ false → slice_get peers j ≡ Some b → b.id ≢ id
 other_id [] id j b none at = absurd (cc)
 other_id (peer ∷ peers) id zero b none at =
     let here : peer ≡ b = cc in
-    let parts = or_parts (eqb peer.id id) (is_peer peers id) none in
+    let parts = or_parts (eqb peer.id id) (has_id peers id) none in
     λ same. eqb-false peer.id id parts.0 (ap (λ (p : Peer). p.id) here ∙ same)
 other_id (peer ∷ peers) id (suc j) b none at =
-    let parts = or_parts (eqb peer.id id) (is_peer peers id) none in other_id peers id j b parts.1 at
+    let parts = or_parts (eqb peer.id id) (has_id peers id) none in other_id peers id j b parts.1 at
 
 -- the test shows that no two peers have one id
 pub test_apart : (peers : List Peer) → apart_test peers ≡ true → AreApart peers
@@ -87,33 +88,33 @@ test_apart [] told i j a b other at_i at_j = absurd (cc)
 test_apart (peer ∷ peers) told zero zero a b other at_i at_j = absurd (other refl)
 test_apart (peer ∷ peers) told zero (suc j) a b other at_i at_j =
     let here : peer ≡ a = cc in
-    let parts = and_parts (not (is_peer peers peer.id)) (apart_test peers) told in
-    λ same. other_id peers peer.id j b (not-true (is_peer peers peer.id) parts.0) at_j (sym same ∙ sym (ap (λ (p : Peer). p.id) here))
+    let parts = and_parts (not (has_id peers peer.id)) (apart_test peers) told in
+    λ same. other_id peers peer.id j b (not-true (has_id peers peer.id) parts.0) at_j (sym same ∙ sym (ap (λ (p : Peer). p.id) here))
 test_apart (peer ∷ peers) told (suc i) zero a b other at_i at_j =
     let here : peer ≡ b = cc in
-    let parts = and_parts (not (is_peer peers peer.id)) (apart_test peers) told in
-    λ same. other_id peers peer.id i a (not-true (is_peer peers peer.id) parts.0) at_i (same ∙ sym (ap (λ (p : Peer). p.id) here))
+    let parts = and_parts (not (has_id peers peer.id)) (apart_test peers) told in
+    λ same. other_id peers peer.id i a (not-true (has_id peers peer.id) parts.0) at_i (same ∙ sym (ap (λ (p : Peer). p.id) here))
 test_apart (peer ∷ peers) told (suc i) (suc j) a b other at_i at_j =
-    let parts = and_parts (not (is_peer peers peer.id)) (apart_test peers) told in
+    let parts = and_parts (not (has_id peers peer.id)) (apart_test peers) told in
     test_apart peers parts.1 i j a b (λ same. other (ap suc same)) at_i at_j
 
 -- the peer that has an id
-found_peer : (peers : List Peer) (id : ℕ) → is_peer peers id ≡ true → (j : ℕ) × (b : Peer) × (slice_get peers j ≡ Some b) × (b.id ≡ id)
+found_peer : (peers : List Peer) (id : ℕ) → has_id peers id ≡ true → (j : ℕ) × (b : Peer) × (slice_get peers j ≡ Some b) × (b.id ≡ id)
 found_peer [] id found = absurd (true≢false (sym found))
 found_peer (peer ∷ peers) id found = by (eqb peer.id id) refl (found_peer peers id)
   where
-    by : (same : Bool) → eqb peer.id id ≡ same → (is_peer peers id ≡ true → (j : ℕ) × (b : Peer) × (slice_get peers j ≡ Some b) × (b.id ≡ id)) → (j : ℕ) × (b : Peer) × (slice_get (peer ∷ peers) j ≡ Some b) × (b.id ≡ id)
+    by : (same : Bool) → eqb peer.id id ≡ same → (has_id peers id ≡ true → (j : ℕ) × (b : Peer) × (slice_get peers j ≡ Some b) × (b.id ≡ id)) → (j : ℕ) × (b : Peer) × (slice_get (peer ∷ peers) j ≡ Some b) × (b.id ≡ id)
     by true is behind = (0, peer, refl, eqb-true peer.id id is)
     by false is behind =
-        let rest = behind (sym (ap (λ (t : Bool). t || is_peer peers id) is) ∙ found) in (suc rest.0, rest.1, rest.2, rest.3)
+        let rest = behind (sym (ap (λ (t : Bool). t || has_id peers id) is) ∙ found) in (suc rest.0, rest.1, rest.2, rest.3)
 
 -- the test passes where no two peers have one id
 pub apart_passes : (peers : List Peer) → AreApart peers → apart_test peers ≡ true
 apart_passes [] apart = refl
 apart_passes (peer ∷ peers) apart =
-    and_from (not (is_peer peers peer.id)) (apart_test peers) (by (is_peer peers peer.id) refl) (apart_passes peers (λ i j a b other at_i at_j. apart (suc i) (suc j) a b (λ same. other (omega (arith, same))) at_i at_j))
+    and_from (not (has_id peers peer.id)) (apart_test peers) (by (has_id peers peer.id) refl) (apart_passes peers (λ i j a b other at_i at_j. apart (suc i) (suc j) a b (λ same. other (omega (arith, same))) at_i at_j))
   where
-    by : (known : Bool) → is_peer peers peer.id ≡ known → not (is_peer peers peer.id) ≡ true
+    by : (known : Bool) → has_id peers peer.id ≡ known → not (has_id peers peer.id) ≡ true
     by false is = ap not is
     by true is =
         let found = found_peer peers peer.id is in absurd (apart 0 (suc found.0) peer found.1 (λ same. omega (arith, same)) refl found.2 (sym found.3))

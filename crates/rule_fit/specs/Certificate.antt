@@ -1,16 +1,17 @@
 -- What shows that a region doesn't fit its rules, and how far it is from a fit (own choice).
 use Rattle.std.specs.Prelude.{ℕ, Bool, ◌≡◌, ◌≢◌, ◌<◌, ◌+◌, ◌-◌, List, length, sum, Option, IsTrue}
 use Rattle.std.specs.List.{list_all}
+use Rattle.pd_types.specs.BeatCheck.{has_id}
 use Rattle.pd_types.specs.declared.region.Peer.{Peer}
 use Rattle.rule_fit.specs.declared.answer.Certificate.{Certificate}
 use Rattle.rule_fit.specs.declared.answer.Certificate.TheVariants.{Totals, Peers}
 use Rattle.rule_fit.specs.Assignment.{IsGreatest, placed}
 use Rattle.rule_fit.specs.Chosen.{wanted, capacity, size_of}
-use Rattle.rule_fit.specs.Ids.{chosen_by, is_peer}
+use Rattle.rule_fit.specs.Ids.{chosen_by}
 
 -- the ids are of peers, whose suitable rules have a smaller sum of counts than those peers are many
 pub record Lacks (suits : ℕ → ℕ → Bool) (peers : List Peer) (counts : List ℕ) (ids : List ℕ) : Type 0 where
-  pub inside : IsTrue (list_all (is_peer peers) ids)
+  pub inside : IsTrue (list_all (has_id peers) ids)
   pub lacks : capacity counts (wanted suits (length peers) (chosen_by ids peers)) < size_of (length peers) (chosen_by ids peers)
 
 -- these are the sum of the counts and the number of peers, and they differ

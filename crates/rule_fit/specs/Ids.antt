@@ -1,6 +1,6 @@
 -- Peers by their ids.
-use Rattle.std.specs.Prelude.{◌≡◌, ◌≢◌, ℕ, Bool, true, false, not, ◌&&◌, List, [], ◌∷◌, Option, Some, None, slice_get, nat_eq}
-use Rattle.std.specs.List.{list_any}
+use Rattle.std.specs.Prelude.{◌≡◌, ◌≢◌, ℕ, Bool, true, false, not, ◌&&◌, List, [], ◌∷◌, Option, Some, None, slice_get}
+use Rattle.pd_types.specs.BeatCheck.{has_id}
 use Rattle.pd_types.specs.declared.region.Peer.{Peer}
 use Rattle.rule_fit.specs.Chosen.{listed}
 
@@ -17,11 +17,7 @@ chosen_by ids peers p = id_listed ids (slice_get peers p)
 abbrev pub AreApart : List Peer → Type 0
 AreApart peers = (i j : ℕ) (a b : Peer) → i ≢ j → slice_get peers i ≡ Some a → slice_get peers j ≡ Some b → a.id ≢ b.id
 
--- a peer has this id
-abbrev pub is_peer : List Peer → ℕ → Bool
-is_peer peers id = list_any (λ peer. nat_eq peer.id id) peers
-
 -- the test of `AreApart`: no peer has the id of one behind it
 abbrev pub apart_test : List Peer → Bool
 apart_test [] = true
-apart_test (peer ∷ peers) = not (is_peer peers peer.id) && apart_test peers
+apart_test (peer ∷ peers) = not (has_id peers peer.id) && apart_test peers

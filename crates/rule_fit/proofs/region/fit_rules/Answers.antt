@@ -1,7 +1,8 @@
 use Rattle.std.proofs.Common.{◌≡◌, ◌<◌, ℕ, length, arith, sym, ◌∙◌, ap, subst, true, List, Bool, sum, map}
 use Rattle.std.specs.List.{list_all, filter}
+use Rattle.pd_types.specs.BeatCheck.{has_id}
 use Rattle.pd_types.specs.declared.region.Peer.{Peer}
-use Rattle.rule_fit.specs.Ids.{chosen_by, is_peer}
+use Rattle.rule_fit.specs.Ids.{chosen_by}
 use Rattle.rule_fit.specs.Chosen.{listed}
 use Rattle.rule_fit.specs.Search.{marked}
 use Rattle.rule_fit.proofs.PickLemmas.{listed_agrees}
@@ -30,7 +31,7 @@ pub returns-clause-certificate : goal.returns-clause-certificate
 returns-clause-certificate c =
     let long = ap length c.as_slice-peers.ensures.value in
     let agree = subst (λ (peers : List Peer). (p : ℕ) → p < length peers → chosen_by c.in_ok-ids.ids.items peers p ≡ marked c.deref-2.result.now p) c.as_slice-peers.ensures.value c.in_ok-ids.ensures.agree in
-    let inside = subst (λ (peers : List Peer). list_all (is_peer peers) c.in_ok-ids.ids.items ≡ true) c.as_slice-peers.ensures.value c.in_ok-ids.ensures.inside in
+    let inside = subst (λ (peers : List Peer). list_all (has_id peers) c.in_ok-ids.ids.items ≡ true) c.as_slice-peers.ensures.value c.in_ok-ids.ensures.inside in
     rw c.of-3.ensures.value
     (reached_lack (suits_in c.args.beat.now c.args.rules.now c.args.stores.now c.args.now) c.args.beat.now.region.peers (counts_of c.args.rules.now) c.in_ok-given.field-0.given.items c.in_ok-given.field-0.reached.items c.in_ok-ids.ids.items c.in_ok-given.ensures.assigned c.in_ok-given.ensures.closed
     (λ every. c.if-placed-peers.false (let same : c.placed.result ≡ placed c.in_ok-given.field-0.given.items = cc in same ∙ every ∙ sym long))
