@@ -18,7 +18,8 @@ use Rattle.tso_model.specs.Moves.{joined, joined_cell, upper}
 use Rattle.tso_model.specs.Ledger.{Gathered, HasAll, back, drawn_by}
 use Rattle.tso_model.proofs.Basics.{by_eq, in_head, in_tail, in_cons, in_nil}
 use Rattle.tso_model.proofs.Sums.{total-append}
-use Rattle.tso_model.proofs.Sorted.{gathered_lists}
+use Rattle.tso_model.proofs.Codes.{claim_code, claim_one, batch_code, batch_one}
+use Rattle.tso_model.proofs.Sorted.{gathered_lists, windows_rise, batches_rise}
 use Rattle.std.proofs.lemmas.List.{append_assoc, map-append}
 use Rattle.tso_board.specs.declared.seat.DriverSeat.{DriverSeat}
 use Rattle.tso_board.specs.declared.pass.Pass.{Pass}
@@ -26,7 +27,7 @@ use Rattle.tso_board.specs.Seats.{seat_view}
 use Rattle.tso_board.specs.Passes.{pass_view}
 use Rattle.tso_board.specs.Actors.{IsDriverView, IsClientView}
 use Rattle.tso_board.specs.Ledger.{all_joined, first_in, all_claims, all_batches, HasEach, Unites, GatheredFrom}
-use Rattle.tso_board.proofs.Risings.{rises_by, claim_code, claim_one, batch_code, batch_one, windows_rise, batches_rise}
+use Rattle.tso_board.proofs.Risings.{rises_by}
 
 pub joined_append : (v : View) (ds cs : List View) → all_joined v (ds ++ cs) ≡ all_joined (all_joined v ds) cs
 joined_append v [] cs = refl

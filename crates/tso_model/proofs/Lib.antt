@@ -1,6 +1,7 @@
 pub mod ListAt
 pub mod Sums
 pub mod Basics
+pub mod Codes
 pub mod Growth
 pub mod CellA
 pub mod FrameB

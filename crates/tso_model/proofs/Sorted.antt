@@ -12,7 +12,7 @@ use Rattle.tso_model.specs.History.{claims}
 use Rattle.std.proofs.lemmas.List.Elements.{All-nil, All-cons, All-contains, All-weaker}
 use Rattle.pd_types.specs.declared.oracle.Batch.{Batch}
 use Rattle.tso_model.specs.Words.{opening_claim, Inside}
-use Rattle.tso_model.proofs.Basics.{by_eq, in_head, in_tail, in_cons, hits, hits-same}
+use Rattle.tso_model.proofs.Basics.{by_eq, in_head, in_tail, in_cons, in_nil, hits, hits-same}
 use Rattle.tso_model.specs.Ledger.{IsRisingBy, back, Rise, IsWindowList, Climb, IsDrawList, drawn_by, Gathered}
 use Rattle.tso_model.proofs.Basics.{hits-is}
 use Rattle.std.proofs.lemmas.List.Elements.{All-head, All-tail}
@@ -60,6 +60,14 @@ batch-is w x h =
 pub sorted_batches : (xs ys : List Batch) → IsRisingBy (λ (b : Batch). b.last) xs → IsRisingBy (λ (b : Batch). b.last) ys → ((f : Batch → ℕ) → total f xs ≡ total f ys) → xs ≡ ys
 sorted_batches xs ys p q h = one_list (λ (b : Batch). b.last) batch_hits batch-same batch-is xs ys p q h
 
+-- one element a key
+pub one_key : {A : Type 0} (key : A → ℕ) (ys : List A) → IsRisingBy key ys → (x y : A) → Contains ys x → Contains ys y → key x ≡ key y → x ≡ y
+one_key key [] r x y hx hy same = in_nil x hx
+one_key key (z ∷ zs) r x y hx hy same = ⊎_elim
+    (λ (e : z ≡ x). ⊎_elim (λ (f : z ≡ y). sym e ∙ f) (λ (hy' : Contains zs y). absurd (omega (arith, All-contains (λ u. key z < key u) zs y r.0 hy', ap key e, same))) (in_cons z zs y hy))
+    (λ (hx' : Contains zs x). ⊎_elim (λ (f : z ≡ y). absurd (omega (arith, All-contains (λ u. key z < key u) zs x r.0 hx', ap key f, same))) (λ (hy' : Contains zs y). one_key key zs r.1 x y hx' hy' same) (in_cons z zs y hy))
+    (in_cons z zs x hx)
+
 -- WHAT gather MAKES OF THEM
 rise_above : (x : Claim) (n : ℕ) (rest : List Claim) → n ≤ x.window.term → Rise x rest → All (λ (y : Claim). n < y.window.term) rest
 rise_above x n [] le r = All-nil (λ (y : Claim). n < y.window.term)
@@ -69,8 +77,8 @@ rise_sorted : (x : Claim) (rest : List Claim) → Rise x rest → IsRisingBy (λ
 rise_sorted x [] r = (All-nil (λ (y : Claim). x.window.term < y.window.term), tt)
 rise_sorted x (c ∷ cs) r = (rise_above x x.window.term (c ∷ cs) (omega arith) r, rise_sorted c cs r.1)
 
-window_list_sorted : (first : Claim) (ws : List Claim) → IsWindowList first ws → IsRisingBy (λ (c : Claim). c.window.term) ws
-window_list_sorted first ws l = subst (IsRisingBy (λ (c : Claim). c.window.term)) (sym l.all) (rise_sorted first l.rest l.rises)
+pub windows_rise : (first : Claim) (ws : List Claim) → IsWindowList first ws → IsRisingBy (λ (c : Claim). c.window.term) ws
+windows_rise first ws l = subst (IsRisingBy (λ (c : Claim). c.window.term)) (sym l.all) (rise_sorted first l.rest l.rises)
 
 climb_above : (n low t : ℕ) (bs : List Batch) (high u : ℕ) → n ≤ low → All (λ (b : Batch). (0 < b.count) × (b.count ≤ b.last)) bs → Climb low t bs high u → All (λ (b : Batch). n < b.last) bs
 climb_above n low t [] high u le pos c = All-nil (λ (b : Batch). n < b.last)
@@ -82,13 +90,13 @@ climb_sorted : (low t : ℕ) (bs : List Batch) (high u : ℕ) → All (λ (b : B
 climb_sorted low t [] high u pos c = tt
 climb_sorted low t (b ∷ bs) high u pos c = let rest = All-tail (λ (x : Batch). (0 < x.count) × (x.count ≤ x.last)) b bs pos in (climb_above b.last b.last b.term bs high u (omega arith) rest c.2, climb_sorted b.last b.term bs high u rest c.2)
 
-draw_list_sorted : (ws : List Claim) (bs : List Batch) → IsDrawList ws bs → IsRisingBy (λ (b : Batch). b.last) bs
-draw_list_sorted ws bs l = climb_sorted 0 0 bs l.high l.term (All-weaker (λ (b : Batch). (c : Claim) × Contains ws c × Inside c.window b) (λ (b : Batch). (0 < b.count) × (b.count ≤ b.last)) (λ b x. (x.2.3, omega (arith, x.2.4))) bs l.inside) l.rises
+pub batches_rise : (ws : List Claim) (bs : List Batch) → IsDrawList ws bs → IsRisingBy (λ (b : Batch). b.last) bs
+batches_rise ws bs l = climb_sorted 0 0 bs l.high l.term (All-weaker (λ (b : Batch). (c : Claim) × Contains ws c × Inside c.window b) (λ (b : Batch). (0 < b.count) × (b.count ≤ b.last)) (λ b x. (x.2.3, omega (arith, x.2.4))) bs l.inside) l.rises
 
 -- the sorted claims of a view that has all are the windows of the run, and its sorted batches the draws
 pub gathered_lists : (k : Setup) (v : View) (ws : List Claim) (bs : List Batch) → Gathered k v → IsRisingBy (λ (c : Claim). c.window.term) ws → ((f : Claim → ℕ) → total f ws ≡ total f (claims v) + f (opening_claim k.cell))
     → IsRisingBy (λ (b : Batch). b.last) bs → ((f : Batch → ℕ) → total f bs ≡ total (λ (g : Grant). f g.batch) v.grants) → IsWindowList (opening_claim k.cell) ws × IsDrawList ws bs
 gathered_lists k v ws bs g rise same climb weigh =
-    let is : back (g.history.newest ∷ g.history.past) ≡ ws = sorted_claims _ ws (window_list_sorted (opening_claim k.cell) _ g.a.windows) rise (λ f. sym (g.a.claims f) ∙ sym (same f)) in
-    let are : drawn_by g.history.drawn (g.history.newest ∷ g.history.past) ≡ bs = sorted_batches _ bs (draw_list_sorted _ _ g.b.draws) climb (λ f. sym (g.b.batches f) ∙ sym (weigh f)) in
+    let is : back (g.history.newest ∷ g.history.past) ≡ ws = sorted_claims _ ws (windows_rise (opening_claim k.cell) _ g.a.windows) rise (λ f. sym (g.a.claims f) ∙ sym (same f)) in
+    let are : drawn_by g.history.drawn (g.history.newest ∷ g.history.past) ≡ bs = sorted_batches _ bs (batches_rise _ _ g.b.draws) climb (λ f. sym (g.b.batches f) ∙ sym (weigh f)) in
     (subst (IsWindowList (opening_claim k.cell)) is g.a.windows, subst (λ (l : List Claim). IsDrawList l bs) is (subst (IsDrawList (back (g.history.newest ∷ g.history.past))) are g.b.draws))

@@ -27,7 +27,7 @@ use Rattle.tso_model.specs.OneHistory.{IsBelow, AreApart}
 use Rattle.tso_outcome.specs.Batches.{KeepsAbove, KeepBatches}
 use Rattle.tso_outcome.proofs.Ended.{CameBack}
 use Rattle.tso_outcome.specs.Ends.{ClientEnd}
-use Rattle.tso_outcome.proofs.Codes.{hit, hit-same, hit-is, stands, weighs, batch_code, batch_one}
+use Rattle.tso_model.proofs.Codes.{hit, hit-same, hit-is, stands, weighs, batch_code, batch_one}
 use Rattle.tso_outcome.proofs.Chains.{ClientSplit, drew_split, drew_seen, drew_grants}
 
 -- LISTS THAT CLIMB

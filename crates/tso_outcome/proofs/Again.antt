@@ -30,7 +30,8 @@ use Rattle.tso_model.specs.Moves.{driver_view, client_view}
 use Rattle.tso_outcome.proofs.Chains.{drew_client, drew_asked, drew_refusals}
 use Rattle.tso_outcome.proofs.Drives.{drove_split, drove_kept, drove_claimed, IsClaimed, WasPublished}
 use Rattle.tso_outcome.proofs.Above.{client_end, client_at, to_map}
-use Rattle.tso_outcome.proofs.Known.{open_made, once, one_a_term, the_history, claims_stand, driver_of_claim, claim_in, claim_is, driver_of_word, driver_of_start, refusal_in, others_added}
+use Rattle.tso_model.proofs.Sorted.{one_key}
+use Rattle.tso_outcome.proofs.Known.{open_made, once, the_history, claims_stand, driver_of_claim, claim_in, claim_is, driver_of_word, driver_of_start, refusal_in, others_added}
 
 -- the answer that gave an end, with the window that it spoke of
 record Gave (d : ℕ) (before : List DriverAnswer) (said : DriverSaid) (hi term : ℕ) (last : View) : Type 0 where
@@ -97,7 +98,7 @@ module _ (run : Run) (b : CameBack run) where
       let mine_is = claim_is run b mine.0 mine.1 bounded.claim mine.2 in
       let e = driver_of_word run b (record { driver = d; word = packed hi bounded.claim.window.term }) bounded.told in
       let g = gave_at e.0 e.1 hi bounded.claim.window.term (omega (arith, mine_is.1)) mine_is.2 e.3 in
-      let same = one_a_term b.claims b.claims_rise g.claim bounded.claim (claim_in run b e.0 e.1 g.claim g.there) claim_there g.term_is in
+      let same = one_key (λ (c : Claim). c.window.term) b.claims b.claims_rise g.claim bounded.claim (claim_in run b e.0 e.1 g.claim g.there) claim_there g.term_is in
       let lo_is : bounded.claim.window.lo ≡ g.lo = ap (λ (x : Claim). x.window.lo) (sym same) ∙ g.lo_is in
       let number : e.0.part.number ≡ d = sym e.2 in
       let raised_there : Contains (raised e.0.part.answers) bounded.start = ⊎_elim

@@ -2,7 +2,7 @@
 use Rattle.std.proofs.Common.{subst}
 use Rattle.std.specs.Prelude.{Contains}
 use Rattle.tso_model.specs.Words.{opening_claim}
-use Rattle.tso_board.proofs.Risings.{windows_rise}
+use Rattle.tso_model.proofs.Sorted.{windows_rise}
 use Rattle.tso_outcome.specs.Runs.{Run}
 use Rattle.tso_outcome.proofs.Ended.{CameBack}
 use Rattle.tso_outcome.specs.Ends.{IsFinished, DriverEnd, ClientEnd}

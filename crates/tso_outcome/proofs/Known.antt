@@ -1,7 +1,6 @@
 -- What the gathered ledger tells of each worker, and each worker of the ledger.
 use Rattle.std.proofs.Common.{◌≡◌, ℕ, ◌+◌, ◌<◌, ◌≤◌, eqb, cond, List, [], ◌∷◌, sym, refl, ap, ◌∙◌, subst, ⊎_elim, arith}
 use Rattle.std.specs.Prelude.{Contains, map, None}
-use Rattle.std.proofs.lemmas.List.Elements.{All-contains}
 use mathlib.Core.Logic.{dite}
 use native.Mathlib.Decide.{dec_le}
 use Rattle.tso_model.specs.declared.entries.Claim.{Claim}
@@ -15,7 +14,7 @@ use Rattle.tso_model.specs.declared.view.View.{View}
 use Rattle.tso_model.specs.Lists.{total}
 use Rattle.tso_model.specs.Words.{IsOpen, opening_claim, Follows, last_end}
 use Rattle.tso_model.specs.History.{History, Stands, claims, added_at, added_else}
-use Rattle.tso_model.specs.Ledger.{IsRisingBy, back, Rise, IsWindowList}
+use Rattle.tso_model.specs.Ledger.{back, Rise, IsWindowList}
 use Rattle.tso_model.proofs.Basics.{by_bool, by_eq, in_head, in_tail, in_cons, in_nil, weight_le, added_parts}
 use Rattle.tso_model.proofs.Sums.{total-append}
 use Rattle.tso_outcome.specs.Drives.{raised}
@@ -25,7 +24,8 @@ use Rattle.tso_outcome.specs.Runs.{Run, ClientPart, asked_of_all, asked_of_other
 use Rattle.tso_outcome.proofs.Ended.{CameBack, AreDistinctBy}
 use Rattle.tso_outcome.specs.Ends.{DriverEnd, ClientEnd}
 use Rattle.tso_model.specs.Moves.{driver_view, client_view}
-use Rattle.tso_outcome.proofs.Codes.{hit, hit-is, stands, weighs, located, brought, moved, start_code, start_one, found_code, found_one, published_code, published_one, look_code, look_one, refusal_code, refusal_one, claim_code, claim_one}
+use Rattle.tso_model.proofs.Codes.{hit, hit-is, stands, weighs, claim_code, claim_one}
+use Rattle.tso_outcome.proofs.Codes.{located, brought, moved, start_code, start_one, found_code, found_one, published_code, published_one, look_code, look_one, refusal_code, refusal_one}
 use Rattle.tso_outcome.proofs.Chains.{drew_asked, drew_own}
 use Rattle.tso_outcome.proofs.Drives.{drove_starts, drove_back, drove_own, WasPublished, drove_published}
 use Rattle.tso_outcome.proofs.Above.{in_map, to_map, lists_of}
@@ -40,14 +40,6 @@ once number [] d x y hx hy same = in_nil x hx
 once number (z ∷ zs) d x y hx hy same = ⊎_elim
     (λ (e : z ≡ x). ⊎_elim (λ (f : z ≡ y). sym e ∙ f) (λ (hy' : Contains zs y). absurd (d.0 y hy' (ap number e ∙ same))) (in_cons z zs y hy))
     (λ (hx' : Contains zs x). ⊎_elim (λ (f : z ≡ y). absurd (d.0 x hx' (ap number f ∙ sym same))) (λ (hy' : Contains zs y). once number zs d.1 x y hx' hy' same) (in_cons z zs y hy))
-    (in_cons z zs x hx)
-
--- one window a term
-pub one_a_term : (xs : List Claim) → IsRisingBy (λ (c : Claim). c.window.term) xs → (x y : Claim) → Contains xs x → Contains xs y → x.window.term ≡ y.window.term → x ≡ y
-one_a_term [] r x y hx hy same = in_nil x hx
-one_a_term (z ∷ zs) r x y hx hy same = ⊎_elim
-    (λ (e : z ≡ x). ⊎_elim (λ (f : z ≡ y). sym e ∙ f) (λ (hy' : Contains zs y). absurd (omega (arith, All-contains (λ (u : Claim). z.window.term < u.window.term) zs y r.0 hy', ap (λ (u : Claim). u.window.term) e, same))) (in_cons z zs y hy))
-    (λ (hx' : Contains zs x). ⊎_elim (λ (f : z ≡ y). absurd (omega (arith, All-contains (λ (u : Claim). z.window.term < u.window.term) zs x r.0 hx', ap (λ (u : Claim). u.window.term) f, same))) (λ (hy' : Contains zs y). one_a_term zs r.1 x y hx' hy' same) (in_cons z zs y hy))
     (in_cons z zs x hx)
 
 -- WINDOW LISTS

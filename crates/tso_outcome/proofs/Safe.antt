@@ -15,7 +15,8 @@ use Rattle.tso_outcome.specs.Safe.{IsSafeRun, IsFairAnswer}
 use Rattle.tso_model.specs.OneHistory.{LiesInOne}
 use Rattle.tso_outcome.specs.Batches.{KeepsAbove}
 use Rattle.tso_outcome.specs.Refusals.{KeepsAgain}
-use Rattle.tso_outcome.proofs.Codes.{moved, batch_code, batch_one}
+use Rattle.tso_model.proofs.Codes.{batch_code, batch_one}
+use Rattle.tso_outcome.proofs.Codes.{moved}
 use Rattle.tso_outcome.proofs.Above.{to_map}
 
 fair : (run : Run) (c : ℕ) (before : List ClientAnswer) (said : ClientSaid) → KeepsAbove before said → KeepsAgain run c before said → IsFairAnswer before said
