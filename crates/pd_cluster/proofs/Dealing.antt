@@ -17,6 +17,7 @@ use Rattle.std.proofs.lemmas.Map.Keys.{IsStrictlyIncreasing-dedup, non_decreasin
 use Rattle.pd_script.specs.Scripts.{store_by}
 use Rattle.pd_script.specs.declared.act.Line.{Line}
 use Rattle.tso_model.specs.Moves.{numbers_from}
+use Rattle.tso_model.proofs.Numbers.{numbers_at, numbers_length}
 use Rattle.tso_run.specs.declared.line.ClientLine.{ClientLine}
 use Rattle.pd_run.specs.declared.line.DriverLine.{DriverLine}
 use Rattle.pd_run.specs.declared.line.StoreLine.{StoreLine}
@@ -122,15 +123,6 @@ module _ {A : Type 0} (f g : ℕ → A) where
           ∙ sym (get_or-map g keys k 0 d ltk)
 
 -- the numbers of drivers
-numbers_at : (first n i : ℕ) → i < n → get_or (numbers_from first n) i 0 ≡ first + i
-numbers_at first zero i lt = absurd (omega (arith, lt))
-numbers_at first (suc n) zero lt = let e : first ≡ first + 0 = omega arith in e
-numbers_at first (suc n) (suc i) lt = numbers_at (first + 1) n i (omega (arith, lt)) ∙ (let e : first + 1 + i ≡ first + suc i = omega arith in e)
-
-pub numbers_length : (first n : ℕ) → length (numbers_from first n) ≡ n
-numbers_length first zero = refl
-numbers_length first (suc n) = ap suc (numbers_length (first + 1) n)
-
 numbers_rise : (first n : ℕ) → IsStrictlyIncreasing (numbers_from first n)
 numbers_rise first n k lt =
     let low : k + 1 < n = omega (arith, lt, numbers_length first n) in

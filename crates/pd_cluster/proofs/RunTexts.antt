@@ -1,7 +1,7 @@
 -- The text of a run, piece by piece.
 use Rattle.std.proofs.Common.{◌≡◌, ℕ, ◌+◌, ◌<◌, zero, suc, Bool, true, false, cond, List, [], ◌∷◌, ◌++◌, length, take, map, get_or, refl, sym, ap, ◌∙◌, arith, append_assoc, IsUtf8, Result, Ok, Err}
 use Rattle.std.specs.Str.{is_utf8}
-use Rattle.std.proofs.lemmas.List.{take_more}
+use Rattle.std.proofs.lemmas.List.{take_more, append-nil}
 use Rattle.std.proofs.lemmas.List.Folds.{flat_map-map}
 use Rattle.std.proofs.lemmas.Str.{IsUtf8-from_is_utf8, is_utf8-from_IsUtf8}
 use Rattle.std.specs.Prelude.{OnOk, codes, flat_map, is_ok}
@@ -16,10 +16,6 @@ use Rattle.pd_run.specs.declared.answer.StoreAnswers.{StoreAnswers}
 use Rattle.pd_run.specs.declared.runner.Left.{Left}
 use Rattle.pd_run.specs.Runs.{DriverPart, Journal, StorePart, driver_part, journal_of, run_of, store_part}
 use Rattle.pd_cluster.specs.RunText.{client_section, driver_section, journal_section, key_text, meta_section, numbered, post_section, run_text, store_section, windows_text}
-
-pub append-nil : {B : Type 0} (xs : List B) → xs ++ [] ≡ xs
-append-nil [] = refl
-append-nil (x ∷ xs) = λ i. x ∷ append-nil xs i
 
 -- NUMBERED LINES
 module _ {A : Type 0} (text : ℕ → A → List ℕ) where

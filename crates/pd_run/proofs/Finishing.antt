@@ -1,5 +1,5 @@
 -- What the oracle's part of a run is, once all workers are joined.
-use Rattle.std.proofs.Common.{◌≡◌, ℕ, zero, suc, ◌+◌, ◌<◌, List, [], ◌∷◌, false, length, sym, refl, ap, ◌∙◌, arith, subst}
+use Rattle.std.proofs.Common.{◌≡◌, ◌<◌, List, [], ◌∷◌, false, length, sym, refl, ap, ◌∙◌, arith, subst}
 use Rattle.std.specs.Prelude.{map, All, Contains}
 use Rattle.std.specs.List.{AllZip}
 use Rattle.std.proofs.lemmas.List.Elements.{All-cons, All-contains, All-head, All-nil, All-tail}
@@ -8,6 +8,7 @@ use Rattle.sched_api.specs.Benches.{Seats}
 use Rattle.tso_model.specs.declared.view.View.{View}
 use Rattle.tso_model.specs.Moves.{numbers_from, driver_view}
 use Rattle.tso_model.specs.Sound.{IsSetup}
+use Rattle.tso_model.proofs.Numbers.{numbers_length}
 use Rattle.tso_board.specs.declared.board.Board.{Board}
 use Rattle.tso_board.specs.declared.opening.Crew.{Crew}
 use Rattle.tso_board.specs.declared.pass.Pass.{Pass}
@@ -51,10 +52,6 @@ use Rattle.pd_shared.specs.Shares.{SharedValue}
 -- a finished run of the oracle is lawful
 pub lawful_oracle : (run : OracleRun) → IsFinished run → IsLawfulOracle run
 lawful_oracle run f = let b = came_back run f in record { windows = keep_windows run b; batches = keep_batches run b; refusals = keep_refusals run b; terms = keep_terms run b }
-
-pub numbers_length : (a n : ℕ) → length (numbers_from a n) ≡ n
-numbers_length a zero = refl
-numbers_length a (suc n) = omega (arith, numbers_length (a + 1) n)
 
 -- DRIVERS
 module _ {N B : Type 0} (seats : B → Seats) (board : Board) where

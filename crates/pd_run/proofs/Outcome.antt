@@ -8,6 +8,7 @@ use Rattle.pd_turn.specs.Turns.{AreApart, TurnValue}
 use Rattle.sched_api.specs.Benches.{Seats}
 use Rattle.tso_model.specs.Moves.{numbers_from}
 use Rattle.tso_model.specs.Sound.{IsSetup}
+use Rattle.tso_model.proofs.Numbers.{numbers_length}
 use Rattle.tso_board.specs.declared.board.Board.{Board}
 use Rattle.tso_board.specs.Boards.{setup_of}
 use Rattle.tso_outcome.specs.Lawful.{IsLawful as IsLawfulOracle}
@@ -30,7 +31,7 @@ use Rattle.pd_run.specs.declared.driving.DriverWork.{DriverWork}
 use Rattle.pd_run.specs.declared.runner.Left.{Left}
 use Rattle.pd_run.specs.declared.storing.StoreWork.{StoreWork}
 use Rattle.tso_run.proofs.Rows.{rows_length}
-use Rattle.pd_run.proofs.Finishing.{called, numbered_clients, numbered_drivers, numbers_length}
+use Rattle.pd_run.proofs.Finishing.{called, numbered_clients, numbered_drivers}
 use Rattle.pd_run.proofs.Judging.{benches_heard, closed_numbers, closed_seats, driver_lines, drivers_answer, lawful_journals, store_lines, stores_answer, stores_made, took_popped}
 use Rattle.pd_run.proofs.Leading.{zip_length}
 use Rattle.pd_run.proofs.Spare.{alone}

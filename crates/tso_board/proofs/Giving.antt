@@ -1,24 +1,14 @@
 -- The base gives its numbers one by one.
-use Rattle.std.proofs.Common.{◌≡◌, ℕ, zero, suc, ◌+◌, ◌-◌, ◌*◌, ◌<◌, List, [], ◌∷◌, ◌++◌, map, sym, ap, subst, ◌∙◌, arith}
+use Rattle.std.proofs.Common.{◌≡◌, ℕ, suc, ◌+◌, ◌-◌, ◌*◌, ◌<◌, List, [], ◌∷◌, ◌++◌, map, sym, ap, subst, ◌∙◌, arith}
 use Rattle.std.specs.Prelude.{All}
 use Rattle.std.proofs.lemmas.List.Elements.{All-push}
 use Rattle.std.proofs.lemmas.List.{map-append}
 use Rattle.tso_model.specs.declared.view.View.{View}
 use Rattle.tso_model.specs.declared.view.Setup.{Setup}
 use Rattle.tso_model.specs.Moves.{blank, numbers_from, rest_of, head_of, gave_driver, gave_client, new_driver, new_client, first_view, driver_view, client_view}
+use Rattle.tso_model.proofs.Numbers.{map_numbers}
 use Rattle.tso_board.specs.Opened.{left}
 use Rattle.tso_board.specs.Plays.{Sat}
-
-numbers_more : (a n : ℕ) → numbers_from a (suc n) ≡ numbers_from a n ++ (a + n) ∷ []
-numbers_more a zero = ap (λ (m : ℕ). m ∷ []) (let e : a ≡ a + 0 = omega arith in e)
-numbers_more a (suc n) = ap (λ (l : List ℕ). a ∷ l) (numbers_more (a + 1) n) ∙ ap (λ (m : ℕ). a ∷ (numbers_from (a + 1) n ++ m ∷ [])) (let e : a + 1 + n ≡ a + suc n = omega arith in e)
-
--- one more number, from 1 on
-pub map_numbers : {B : Type 0} (f : ℕ → B) (n : ℕ) → map f (numbers_from 1 (n + 1)) ≡ map f (numbers_from 1 n) ++ f (n + 1) ∷ []
-map_numbers f n =
-    let e : n + 1 ≡ suc n = omega arith in
-    let o : 1 + n ≡ n + 1 = omega arith in
-    ap (λ (m : ℕ). map f (numbers_from 1 m)) e ∙ ap (λ (l : List ℕ). map f l) (numbers_more 1 n) ∙ map-append f (numbers_from 1 n) ((1 + n) ∷ []) ∙ ap (λ (m : ℕ). map f (numbers_from 1 n) ++ f m ∷ []) o
 
 -- of n numbers of which i are given, the next is i + 1
 pub next_number : (i n : ℕ) → i < n → numbers_from (i + 1) (n - i) ≡ (i + 1) ∷ numbers_from (i + 1 + 1) (n - (i + 1))

@@ -1,6 +1,6 @@
 -- Making an oracle: the base gives its numbers one by one, and the state is sound.
 use Rattle.std.proofs.Common.{◌≡◌, ℕ, zero, suc, ◌+◌, ◌-◌, ◌*◌, ◌<◌, ◌≤◌, List, [], ◌∷◌, ◌++◌, length, get_or, set, map, refl, sym, ap, subst, ◌∙◌, arith, length-append}
-use Rattle.std.proofs.lemmas.List.{append-nil, append_assoc, length-map, length-replicate, get_or-replicate, get_or_append_left, get_or-append_right, get_or-map, map-append}
+use Rattle.std.proofs.lemmas.List.{append-nil, append_assoc, length-map, length-replicate, get_or-replicate, get_or_append_left, get_or-append_right, get_or-map}
 use Rattle.std.specs.Prelude.{replicate}
 use Rattle.pd_types.specs.declared.oracle.Batch.{Batch}
 use Rattle.pd_types.specs.declared.oracle.Window.{Window}
@@ -11,6 +11,7 @@ use Rattle.tso_model.specs.Moves.{blank, spent_view, numbers_from, first_words, 
 use Rattle.tso_model.specs.Sound.{IsSetup}
 use Rattle.tso_model.specs.Ledger.{Recorded}
 use Rattle.tso_model.proofs.Moves.{starts, splits_driver, splits_client}
+use Rattle.tso_model.proofs.Numbers.{numbers_at, numbers_length}
 use Rattle.tso_core.specs.declared.turn.Turn.{Turn}
 use Rattle.tso_core.specs.Due.{at_rest}
 use Rattle.tso_core.specs.Whole.{base_view}
@@ -19,26 +20,6 @@ use Rattle.tso_core.specs.Opened.{first_views, opened}
 
 pub first_set : (n x : ℕ) → (let l : List ℕ = set (replicate (n + 1) 0) 0 x in l) ≡ x ∷ replicate n 0
 first_set n x = let e : n + 1 ≡ suc n = omega arith in ap (λ (m : ℕ). let l : List ℕ = set (replicate m 0) 0 x in l) e
-
-numbers_more : (a n : ℕ) → numbers_from a (suc n) ≡ numbers_from a n ++ (a + n) ∷ []
-numbers_more a zero = ap (λ (m : ℕ). m ∷ []) (let e : a ≡ a + 0 = omega arith in e)
-numbers_more a (suc n) = ap (λ (l : List ℕ). a ∷ l) (numbers_more (a + 1) n) ∙ ap (λ (m : ℕ). a ∷ (numbers_from (a + 1) n ++ m ∷ [])) (let e : a + 1 + n ≡ a + suc n = omega arith in e)
-
--- one more number, from 1 on
-pub map_numbers : {B : Type 0} (f : ℕ → B) (n : ℕ) → map f (numbers_from 1 (n + 1)) ≡ map f (numbers_from 1 n) ++ f (n + 1) ∷ []
-map_numbers f n =
-    let e : n + 1 ≡ suc n = omega arith in
-    let o : 1 + n ≡ n + 1 = omega arith in
-    ap (λ (m : ℕ). map f (numbers_from 1 m)) e ∙ ap (λ (l : List ℕ). map f l) (numbers_more 1 n) ∙ map-append f (numbers_from 1 n) ((1 + n) ∷ []) ∙ ap (λ (m : ℕ). map f (numbers_from 1 n) ++ f m ∷ []) o
-
-numbers_length : (a n : ℕ) → length (numbers_from a n) ≡ n
-numbers_length a zero = refl
-numbers_length a (suc n) = omega (arith, numbers_length (a + 1) n)
-
-numbers_at : (a n i : ℕ) → i < n → get_or (numbers_from a n) i 0 ≡ a + i
-numbers_at a zero i within = absurd (omega arith)
-numbers_at a (suc n) zero within = omega arith
-numbers_at a (suc n) (suc i) within = omega (arith, numbers_at (a + 1) n i (omega arith))
 
 no_wait : (id n : ℕ) → waiting id (replicate n []) ≡ 0
 no_wait id zero = refl

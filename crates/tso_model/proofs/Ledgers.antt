@@ -15,10 +15,7 @@ use Rattle.tso_model.specs.Sound.{PartA, PartB}
 use Rattle.tso_model.proofs.Basics.{by_eq, by_bool, by_lt, in_head, in_tail, in_cons, in_nil, past_lower}
 use Rattle.std.proofs.lemmas.List.Elements.{All-head, All-tail}
 use Rattle.tso_model.specs.Ledger.{back, Rise, IsWindowList, Climb, IsDrawList, drawn_by, place}
-
-pub append-nil : {A : Type 0} (xs : List A) → xs ++ [] ≡ xs
-append-nil [] = refl
-append-nil (x ∷ xs) = ap (λ l. x ∷ l) (append-nil xs)
+use Rattle.std.proofs.lemmas.List.{append-nil}
 
 append-more : {A : Type 0} (xs ys zs : List A) → (xs ++ ys) ++ zs ≡ xs ++ (ys ++ zs)
 append-more [] ys zs = refl

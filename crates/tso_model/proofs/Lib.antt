@@ -1,4 +1,5 @@
 pub mod ListAt
+pub mod Numbers
 pub mod Sums
 pub mod Basics
 pub mod Codes

@@ -2,6 +2,7 @@
 use Rattle.std.proofs.Common.{◌≡◌, ℕ, ◌+◌, ◌<◌, ◌≤◌, eqb, cond, List, [], ◌∷◌, ◌++◌, sym, refl, ap, ◌∙◌, subst, ⊎_elim, arith, append_assoc}
 use Rattle.std.specs.Prelude.{Contains, map, Option, Some, None, Result, Ok, Err}
 use Rattle.std.proofs.lemmas.List.Elements.{Contains-push_cases}
+use Rattle.std.proofs.lemmas.List.{map-append}
 use Rattle.pd_types.specs.declared.oracle.Batch.{Batch}
 use Rattle.pd_types.specs.declared.oracle.Seen.{Seen}
 use Rattle.tso_model.specs.declared.entries.Added.{Added}
@@ -18,10 +19,6 @@ use Rattle.tso_driver.specs.Driving.{Keeps}
 use Rattle.tso_outcome.specs.Clients.{Client, Drew, ClientDid, seen_after, seen_by, got, got_by, asked, asked_by, posts, posted}
 use Rattle.tso_outcome.proofs.Passes.{pass_kept, ClientTold, grant_of, AddsAtMost}
 use Rattle.tso_model.specs.OneHistory.{IsAbove}
-
-pub map-append : {A B : Type 0} (f : A → B) (xs ys : List A) → map f (xs ++ ys) ≡ map f xs ++ map f ys
-map-append f [] ys = refl
-map-append f (x ∷ xs) ys = λ i. f x ∷ map-append f xs ys i
 
 -- CLIENTS
 

@@ -2,6 +2,7 @@
 use Rattle.std.proofs.Common.{◌≡◌, ℕ, ◌<◌, ◌≤◌, ◌⊎◌, cond, true, false, List, [], ◌∷◌, ◌++◌, sym, refl, ap, ◌∙◌, subst, inl, inr, ⊎_elim, arith, append_assoc, max}
 use Rattle.std.specs.Prelude.{Contains, map, Option, Some, None, option_to_list, All}
 use Rattle.std.proofs.lemmas.List.Elements.{All-cons, All-nil, All-weaker}
+use Rattle.std.proofs.lemmas.List.{append-nil, map-append}
 use Rattle.pd_types.specs.declared.oracle.Window.{Window}
 use Rattle.tso_model.specs.declared.entries.Claim.{Claim}
 use Rattle.tso_model.specs.declared.entries.Published.{Published}
@@ -20,11 +21,6 @@ use Rattle.tso_outcome.specs.Drives.{Drove, held_by, raised}
 use Rattle.pd_types.specs.Numbers.{greatest_of}
 use Rattle.tso_driver.specs.Driving.{DriverDid, DriverTold, ClaimsGrow, terms, Keeps, held_after, moved_to, raises, start_at, Publishes}
 use Rattle.tso_board.specs.Told.{holding}
-use Rattle.tso_outcome.proofs.Chains.{map-append}
-
-append-nil : {A : Type 0} (xs : List A) → xs ++ [] ≡ xs
-append-nil [] = refl
-append-nil (x ∷ xs) = λ i. x ∷ append-nil xs i
 
 -- a list of calls, split at one of them
 pub record DriverSplit (v : View) (before : List DriverAnswer) (a : DriverAnswer) (after : List DriverAnswer) (w : View) : Type 0 where

@@ -2,6 +2,7 @@
 use Rattle.std.proofs.Common.{◌≡◌, ◌≢◌, ℕ, ◌%◌, ◌<◌, ◌≤◌, ◌⊎◌, List, [], ◌∷◌, ◌++◌, sym, refl, ap, ◌∙◌, subst, inr, arith}
 use Rattle.std.specs.Prelude.{Contains, map, Some, None, Ok, Err}
 use Rattle.std.proofs.lemmas.List.Elements.{Contains-append_left, Contains-append_right}
+use Rattle.std.proofs.lemmas.List.{append-nil}
 use Rattle.pd_types.specs.declared.oracle.Batch.{Batch}
 use Rattle.tso_model.specs.declared.entries.Grant.{Grant}
 use Rattle.tso_model.specs.declared.view.View.{View}
@@ -68,10 +69,6 @@ pub record PassKept (said : ClientSaid) (old new : View) : Type 0 where
   pub looks : Keeps old.looks new.looks
   pub refusals : Keeps old.refusals new.refusals
   pub told : ClientTold said old new
-
-append-nil : {A : Type 0} (xs : List A) → xs ++ [] ≡ xs
-append-nil [] = refl
-append-nil (x ∷ xs) = λ i. x ∷ append-nil xs i
 
 -- what stood before stands in a longer list, and what was put behind it too
 kept_by : {A : Type 0} (old new more : List A) → new ≡ old ++ more → (let k : Type 0 = Keeps old new in k)

@@ -1,7 +1,7 @@
 -- One line more, of a list that a client walks.
 use Rattle.std.proofs.Common.{◌≡◌, ◌≢◌, ℕ, ◌+◌, ◌<◌, Bool, true, false, List, [], ◌∷◌, ◌++◌, cond, length, take, get_or, sym, refl, ap, ◌∙◌, subst}
 use Rattle.std.proofs.lemmas.Bool.{eq-eqb, ne_eqb}
-use Rattle.std.proofs.lemmas.List.{take_more}
+use Rattle.std.proofs.lemmas.List.{take_more, append-nil, map-append}
 use Rattle.std.proofs.lemmas.List.Elements.{filter-append}
 use Rattle.std.specs.Prelude.{filter, map}
 use Rattle.tso_outcome.specs.declared.said.ClientAnswer.{ClientAnswer}
@@ -11,19 +11,11 @@ use Rattle.tso_run.specs.declared.line.ClientLine.{ClientLine}
 use Rattle.tso_run.specs.Lines.{client_ask, client_line, lines_of_client}
 
 module _ {A : Type 0} (own : A → Bool) where
-  append-nil : (xs : List A) → xs ++ [] ≡ xs
-  append-nil [] = refl
-  append-nil (x ∷ xs) = λ i. x ∷ append-nil xs i
-
   pub own_more : (lines : List A) (i : ℕ) (d : A) → i < length lines → own (get_or lines i d) ≡ true → filter own (take (i + 1) lines) ≡ filter own (take i lines) ++ get_or lines i d ∷ []
   own_more lines i d lt mine = ap (filter own) (take_more lines i d lt) ∙ filter-append own (take i lines) (get_or lines i d ∷ []) ∙ ap (λ (b : Bool). filter own (take i lines) ++ cond b (get_or lines i d ∷ []) []) mine
 
   pub other_more : (lines : List A) (i : ℕ) (d : A) → i < length lines → own (get_or lines i d) ≡ false → filter own (take (i + 1) lines) ≡ filter own (take i lines)
   other_more lines i d lt other = ap (filter own) (take_more lines i d lt) ∙ filter-append own (take i lines) (get_or lines i d ∷ []) ∙ ap (λ (b : Bool). filter own (take i lines) ++ cond b (get_or lines i d ∷ []) []) other ∙ append-nil (filter own (take i lines))
-
-map-append : {A B : Type 0} (f : A → B) (xs ys : List A) → map f (xs ++ ys) ≡ map f xs ++ map f ys
-map-append f [] ys = refl
-map-append f (x ∷ xs) ys = λ i. f x ∷ map-append f xs ys i
 
 drew_more : (v : Client) (answers : List ClientAnswer) (u : Client) (a : ClientAnswer) (w : Client) → Drew v answers u → ClientDid a.line a.said u w → Drew v (answers ++ a ∷ []) w
 drew_more v [] u a w h did = (w, subst (λ x. ClientDid a.line a.said x w) (sym h) did, refl)

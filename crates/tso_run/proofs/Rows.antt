@@ -1,7 +1,9 @@
 -- Lists by rising numbers, one by one.
 use Rattle.std.proofs.Common.{◌≡◌, ℕ, zero, suc, ◌+◌, ◌-◌, ◌<◌, List, [], ◌∷◌, ◌++◌, length, sym, refl, ap, ◌∙◌, arith}
 use Rattle.std.specs.Prelude.{map}
+use Rattle.std.proofs.lemmas.List.{map-append}
 use Rattle.tso_model.specs.Moves.{numbers_from}
+use Rattle.tso_model.proofs.Numbers.{numbers_more}
 
 module _ {A B : Type 0} (view : A → B) (f : ℕ → B) where
   abbrev rest_or : List B → List B
@@ -16,14 +18,6 @@ module _ {A B : Type 0} (view : A → B) (f : ℕ → B) where
   pub next_is : (a n : ℕ) (x : A) (xs : List A) → map view (x ∷ xs) ≡ map f (numbers_from a n) → (0 < n) × (view x ≡ f a) × (map view xs ≡ map f (numbers_from (a + 1) (n - 1)))
   next_is a zero x xs e = absurd (cc e)
   next_is a (suc n) x xs e = (omega arith, ap (head_or (view x)) e, ap rest_or e ∙ ap (λ (m : ℕ). map f (numbers_from (a + 1) m)) (let s : n ≡ suc n - 1 = omega arith in s))
-
-pub numbers_more : (a n : ℕ) → numbers_from a (suc n) ≡ numbers_from a n ++ (a + n) ∷ []
-numbers_more a zero = ap (λ (m : ℕ). m ∷ []) (let e : a ≡ a + 0 = omega arith in e)
-numbers_more a (suc n) = ap (λ (l : List ℕ). a ∷ l) (numbers_more (a + 1) n) ∙ ap (λ (m : ℕ). a ∷ (numbers_from (a + 1) n ++ m ∷ [])) (let e : a + 1 + n ≡ a + suc n = omega arith in e)
-
-pub map-append : {A B : Type 0} (f : A → B) (xs ys : List A) → map f (xs ++ ys) ≡ map f xs ++ map f ys
-map-append f [] ys = refl
-map-append f (x ∷ xs) ys = λ i. f x ∷ map-append f xs ys i
 
 -- one more worker, with the next number
 pub numbered : {A : Type 0} (number : A → ℕ) (old new : List A) (x : A) (n : ℕ) → new ≡ old ++ x ∷ [] → map number old ≡ numbers_from 1 n → number x ≡ n + 1 → map number new ≡ numbers_from 1 (n + 1)

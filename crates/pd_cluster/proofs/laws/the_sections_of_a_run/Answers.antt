@@ -5,8 +5,9 @@ use Rattle.tso_client.specs.declared.entry.PostWhat.TheVariants as posted
 use Rattle.tso_core.specs.declared.reply.Reply.TheVariants as replies
 use Rattle.pd_cluster.specs.RunText.{entry_line, meta_line, post_line, said_line, window_line}
 use Rattle.pd_cluster.specs.declared.said.Said.TheVariants.{ByOracle, Popped}
-use Rattle.pd_cluster.proofs.RunTexts.{append-nil, one_answer}
+use Rattle.pd_cluster.proofs.RunTexts.{one_answer}
 use Rattle.pd_cluster.proofs.laws.the_sections_of_a_run.Goals as goal
+use Rattle.std.proofs.lemmas.List.{append-nil}
 
 pub returns : goal.returns
 returns c =

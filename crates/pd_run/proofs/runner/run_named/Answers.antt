@@ -1,6 +1,7 @@
 use Rattle.std.proofs.Common.{◌≡◌, ◌∙◌, ◌∷◌, ℕ, List, Global, Option, Vec, length, map, sym, ap, arith, subst}
 use Rattle.pd_turn.specs.Turns.{AreApart}
 use Rattle.tso_model.specs.Moves.{numbers_from}
+use Rattle.tso_model.proofs.Numbers.{numbers_length}
 use Rattle.tso_board.specs.Boards.{setup_of}
 use Rattle.tso_run.proofs.Ending.{all_map, map-map, ok_weaker}
 use Rattle.tso_run.proofs.Rows.{rows_length}
@@ -19,7 +20,6 @@ use Rattle.pd_run.specs.declared.line.StoreLines.{StoreLines}
 use Rattle.pd_run.specs.declared.pipe.Pipe.{Pipe}
 use Rattle.pd_run.specs.declared.storing.StoreWork.{StoreWork}
 use Rattle.pd_run.proofs.Beginning.{tasks_of}
-use Rattle.pd_run.proofs.Finishing.{numbers_length}
 use Rattle.pd_run.proofs.Leaving.{same_stores}
 use Rattle.pd_run.proofs.Readying.{all_starts, eight_seats, seats_count, spare_seats}
 use Rattle.pd_run.proofs.runner.run_named.Goals as goal

@@ -2,8 +2,8 @@ use Rattle.std.proofs.Common.{ℕ, List, [], ◌∷◌, ◌++◌, map, sym, ap, 
 use Rattle.std.proofs.lemmas.List.{append_assoc, map-append}
 use Rattle.tso_model.specs.declared.view.View.{View}
 use Rattle.tso_model.specs.Moves.{numbers_from, driver_view}
+use Rattle.tso_model.proofs.Numbers.{map_numbers}
 use Rattle.tso_core.specs.Seated.{Seated, view_of}
-use Rattle.tso_core.proofs.Started.{map_numbers}
 use Rattle.tso_core.proofs.opening.seat_drivers.Goals as goal
 
 pub loop-index-preserved : goal.loop-index-preserved
