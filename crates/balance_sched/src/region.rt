@@ -4,6 +4,8 @@ ghost use Rattle.rule_set.specs.InForce.{rules_at};
 ghost use Rattle.balance_sched.specs.Moves.{FitsRules, done, is_target};
 ghost use Rattle.balance_sched.specs.Search.{IsAllowed, may_go, targets};
 ghost use Rattle.balance_sched.specs.Tables.{count_of, tables_of};
+ghost use Rattle.pd_types.specs.declared.beat.TheConstants.{MAX_PEERS};
+ghost use Rattle.pd_types.specs.declared.rule.TheConstants.{MAX_RULES};
 
 use crate::case::{Case, View, count};
 use crate::moves::{done, is_on, peer_on};
@@ -71,8 +73,8 @@ fn is_target(on: View, store: u64, beat: &RegionBeat) -> bool
 
 /// Whether the region fits these rules.
 pub fn fits(alloc: Global, on: View, beat: &RegionBeat, rules: &Rules) -> Result<bool, NoMemory>
-    requires peers { length beat.now.region.peers ≤ 15 }
-    requires few { length rules.now ≤ 64 }
+    requires peers { length beat.now.region.peers ≤ MAX_PEERS }
+    requires few { length rules.now ≤ MAX_RULES }
     requires rules { rules.now ≡ rules_at beat.now.region.start on.rules.now }
     ensures { IfOk result (λ fits. IsTrue fits ↔ FitsRules (tables_of on.entry.stores.now on.entry.standing.now on.entry.rules.now on.entry.busy.now on.entry.now) beat.now) }
 {
@@ -87,8 +89,8 @@ fn fits_after(
     rules: &Rules,
     one: &Move,
 ) -> Result<bool, NoMemory>
-    requires peers { length beat.now.region.peers ≤ 15 }
-    requires few { length rules.now ≤ 64 }
+    requires peers { length beat.now.region.peers ≤ MAX_PEERS }
+    requires few { length rules.now ≤ MAX_RULES }
     requires rules { rules.now ≡ rules_at beat.now.region.start on.rules.now }
     ensures { IfOk result (λ fits. IsTrue fits ↔ FitsRules (tables_of on.entry.stores.now on.entry.standing.now on.entry.rules.now on.entry.busy.now on.entry.now) (done on.entry.kind one.now beat.now)) }
 {
@@ -115,8 +117,8 @@ pub fn is_allowed(
     rules: &Rules,
     one: &Move,
 ) -> Result<bool, NoMemory>
-    requires peers { length beat.now.region.peers ≤ 15 }
-    requires few { length rules.now ≤ 64 }
+    requires peers { length beat.now.region.peers ≤ MAX_PEERS }
+    requires few { length rules.now ≤ MAX_RULES }
     requires rules { rules.now ≡ rules_at beat.now.region.start on.rules.now }
     ensures { IfOk result (λ allowed. IsTrue allowed ↔ IsAllowed on.entry.kind (tables_of on.entry.stores.now on.entry.standing.now on.entry.rules.now on.entry.busy.now on.entry.now) beat.now one.now) }
 {

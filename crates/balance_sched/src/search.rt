@@ -4,6 +4,8 @@ ghost use Rattle.rule_set.specs.InForce.{rules_at};
 ghost use Rattle.balance_sched.specs.Moves.{FitsRules, is_source, Proposes};
 ghost use Rattle.balance_sched.specs.Search.{AllLose, Follows, IsBest, LoseBetween, LoseFrom, can_win};
 ghost use Rattle.balance_sched.specs.Tables.{count_of, tables_of};
+ghost use Rattle.pd_types.specs.declared.beat.TheConstants.{MAX_PEERS};
+ghost use Rattle.pd_types.specs.declared.rule.TheConstants.{MAX_RULES};
 
 use crate::Move;
 use crate::case::{Case, View, count, counts, least};
@@ -18,8 +20,8 @@ struct Idle<'a> {
     on: Case<'a>,
     beat: &'a RegionBeat,
     rules: &'a Rules,
-    ghost peers: { length beat.now.region.peers ≤ 15 },
-    ghost few: { length rules.now ≤ 64 },
+    ghost peers: { length beat.now.region.peers ≤ MAX_PEERS },
+    ghost few: { length rules.now ≤ MAX_RULES },
     ghost rules_are: { rules.now ≡ rules_at beat.now.region.start on.view.rules.now },
     ghost idle: { Contains on.view.busy.now beat.now.region.id → ⊥ },
 }
@@ -192,7 +194,7 @@ fn best_with(
     beat: &RegionBeat,
     best: Option<Move>,
 ) -> Result<Option<Move>, NoMemory>
-    requires peers { length beat.now.region.peers ≤ 15 }
+    requires peers { length beat.now.region.peers ≤ MAX_PEERS }
     ensures follows { IfOk result (Follows on.entry.view.kind (tables_of on.entry.view.stores.now on.entry.view.standing.now on.entry.view.rules.now on.entry.view.busy.now on.entry.view.now) beat.now best) }
     ensures lose { IfOk result (AllLose on.entry.view.kind (tables_of on.entry.view.stores.now on.entry.view.standing.now on.entry.view.rules.now on.entry.view.busy.now on.entry.view.now) beat.now) }
 {

@@ -18,7 +18,7 @@ use Rattle.rule_set.specs.declared.fault.RemoveFault.{RemoveFault}
 use Rattle.rule_set.specs.declared.fault.RemoveFault.TheVariants.{Absent, LastRule}
 use Rattle.rule_set.specs.declared.fault.SetFault.{SetFault}
 use Rattle.rule_set.specs.declared.fault.SetFault.TheVariants.{Limit}
-use Rattle.rule_set.specs.declared.set.TheConstants.{MOST_RULES}
+use Rattle.pd_types.specs.declared.rule.TheConstants.{MAX_RULES}
 use Rattle.rule_set.specs.Changes.{knows, remove_refusal, set_refusal}
 use Rattle.rule_text.specs.declared.fault.RuleFault.{RuleFault}
 use Rattle.rule_text.specs.declared.fault.RuleFault.TheVariants.{NoMemory, NotJson}
@@ -86,9 +86,9 @@ never_limit (answer ∷ answers) h = not_limit answer.verdict (by_answers replie
 
 pub full_set : (rule : Rule) (rules : List Rule) → knows rule.group rule.id rules ≡ false → 64 ≤ length rules → set_refusal rule rules ≡ Some Limit
 full_set rule rules unknown many =
-    ap (λ (t : Bool). cond t None (cond (nat_le MOST_RULES (length rules)) (Some Limit) None)) unknown ∙ ap (λ (t : Bool). cond t (Some Limit) None) full
+    ap (λ (t : Bool). cond t None (cond (nat_le MAX_RULES (length rules)) (Some Limit) None)) unknown ∙ ap (λ (t : Bool). cond t (Some Limit) None) full
   where
-    full : nat_le MOST_RULES (length rules) ≡ true
+    full : nat_le MAX_RULES (length rules) ≡ true
     full = grind (arith, nat_tests)
 
 abbrev IsFull : Rule → List Rule → Type 0
@@ -97,14 +97,14 @@ IsFull rule rules = (knows rule.group rule.id rules ≡ false) × (64 ≤ length
 room_or_full : (rule : Rule) (rules : List Rule) → (set_refusal rule rules ≡ None → IsFull rule rules) → IsFull rule rules
 room_or_full rule rules free = by (knows rule.group rule.id rules) refl
   where
-    many : (t : Bool) → nat_le MOST_RULES (length rules) ≡ t → knows rule.group rule.id rules ≡ false → IsFull rule rules
+    many : (t : Bool) → nat_le MAX_RULES (length rules) ≡ t → knows rule.group rule.id rules ≡ false → IsFull rule rules
     many true is unknown = (unknown, grind (arith, nat_tests))
     many false is unknown =
-        free (ap (λ (t : Bool). cond t None (cond (nat_le MOST_RULES (length rules)) (Some Limit) None)) unknown ∙ ap (λ (t : Bool). cond t (Some Limit) None) is)
+        free (ap (λ (t : Bool). cond t None (cond (nat_le MAX_RULES (length rules)) (Some Limit) None)) unknown ∙ ap (λ (t : Bool). cond t (Some Limit) None) is)
 
     by : (t : Bool) → knows rule.group rule.id rules ≡ t → IsFull rule rules
-    by true is = free (ap (λ (t : Bool). cond t None (cond (nat_le MOST_RULES (length rules)) (Some Limit) None)) is)
-    by false is = many (nat_le MOST_RULES (length rules)) refl is
+    by true is = free (ap (λ (t : Bool). cond t None (cond (nat_le MAX_RULES (length rules)) (Some Limit) None)) is)
+    by false is = many (nat_le MAX_RULES (length rules)) refl is
 
 pub limit_from : (driver : ℕ) (part : Part) (moment : ℕ) (json : List ℕ) (rule : Rule) (heard : Heard) → Means json rule → first_reply driver (Some part) (ask.Rule moment json) heard ≡ replies.RuleLimit
     → (knows rule.group rule.id part.rules ≡ false) × (64 ≤ length part.rules)

@@ -12,7 +12,7 @@ use Rattle.pd_types.specs.Keys.{is_below}
 use Rattle.pd_types.proofs.Members.{contains_none}
 use Rattle.pd_types.proofs.KeyLemmas.{equal_keys, not_below_itself, same_keys}
 use Rattle.hex.specs.Hex.{encode_with}
-use Rattle.rule_set.specs.declared.set.TheConstants.{MOST_RULES}
+use Rattle.pd_types.specs.declared.rule.TheConstants.{MAX_RULES}
 use Rattle.rule_set.specs.Changes.{with_rule}
 use Rattle.rule_set.specs.Order.{AreApart, comes_before, is_named, without}
 use Rattle.rule_set.proofs.SetLemmas.{with_from, with_here, with_old}
@@ -34,7 +34,7 @@ Tells rule cell = rule_in cell ≡ Some rule
 -- each rule was told
 from_more : (o : Option Rule) (rule : Rule) (rules : List Rule) → Contains (rule_more o rules) rule → (o ≡ Some rule) ⊎ Contains rules rule
 from_more None rule rules has = inr has
-from_more (Some x) rule rules has = by (nat_le MOST_RULES (length rules)) has
+from_more (Some x) rule rules has = by (nat_le MAX_RULES (length rules)) has
   where
     from : (x ≡ rule) ⊎ (Contains rules rule × AreApart rule x) → (Some x ≡ Some rule) ⊎ Contains rules rule
     from (inl same) = inl (ap Some same)
@@ -79,7 +79,7 @@ with_few rule rules =
 
 grow : (o : Option Rule) (rules : List Rule) → length (rule_more o rules) ≤ length rules + 1
 grow None rules = omega arith
-grow (Some rule) rules = by (nat_le MOST_RULES (length rules))
+grow (Some rule) rules = by (nat_le MAX_RULES (length rules))
   where
     by : (t : Bool) → length (cond t rules (with_rule rule rules)) ≤ length rules + 1
     by true = omega arith
@@ -87,9 +87,9 @@ grow (Some rule) rules = by (nat_le MOST_RULES (length rules))
 
 more_few : (o : Option Rule) (rules : List Rule) → length rules ≤ 64 → length (rule_more o rules) ≤ 64
 more_few None rules few = few
-more_few (Some rule) rules few = by (nat_le MOST_RULES (length rules)) refl
+more_few (Some rule) rules few = by (nat_le MAX_RULES (length rules)) refl
   where
-    by : (t : Bool) → nat_le MOST_RULES (length rules) ≡ t → length (cond t rules (with_rule rule rules)) ≤ 64
+    by : (t : Bool) → nat_le MAX_RULES (length rules) ≡ t → length (cond t rules (with_rule rule rules)) ≤ 64
     by true is = few
     by false is =
         let less : length rules < 64 = grind (arith, nat_tests) in
@@ -103,7 +103,7 @@ told_few (cell ∷ cells) rules few = told_few cells (more rules cell) (more_few
 -- a rule stays, where no later record tells one of its name
 stays_more : (o : Option Rule) (rule : Rule) (rules : List Rule) → ((x : Rule) → o ≡ Some x → AreApart rule x) → Contains rules rule → Contains (rule_more o rules) rule
 stays_more None rule rules others has = has
-stays_more (Some x) rule rules others has = by (nat_le MOST_RULES (length rules))
+stays_more (Some x) rule rules others has = by (nat_le MAX_RULES (length rules))
   where
     by : (t : Bool) → Contains (cond t rules (with_rule x rules)) rule
     by true = has
@@ -140,7 +140,7 @@ apart a b one two below first second group id =
 told_now : (o : Option Rule) (rule : Rule) (rules : List Rule) → o ≡ Some rule → length rules < 64 → Contains (rule_more o rules) rule
 told_now None rule rules is less = absurd cc
 told_now (Some x) rule rules is less =
-    let room : nat_le MOST_RULES (length rules) ≡ false = grind (arith, nat_tests) in
+    let room : nat_le MAX_RULES (length rules) ≡ false = grind (arith, nat_tests) in
     let same : x ≡ rule = cc in
     subst (λ (t : Bool). Contains (cond t rules (with_rule x rules)) rule) (sym room) (subst (λ (y : Rule). Contains (with_rule x rules) y) same (with_here x rules))
 

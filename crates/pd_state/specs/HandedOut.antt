@@ -5,7 +5,7 @@ use Rattle.pd_types.specs.declared.rule.Rule.{Rule}
 use Rattle.pd_types.specs.declared.store.StoreRec.{StoreRec}
 use Rattle.store_table.specs.declared.table.TheConstants.{MOST_STORES}
 use Rattle.store_limit.specs.Limits.{StoreLimits, known}
-use Rattle.rule_set.specs.declared.set.TheConstants.{MOST_RULES}
+use Rattle.pd_types.specs.declared.rule.TheConstants.{MAX_RULES}
 use Rattle.rule_set.specs.Changes.{default_rule, with_rule}
 use Rattle.meta_store.specs.declared.record.Cell.{Cell}
 use Rattle.meta_store.specs.Stores.{store_of}
@@ -39,7 +39,7 @@ limits_of moment recs = fold (λ limits rec. known limits rec.id moment) finmap.
 -- a rule more, where one was told and there are fewer than 64
 abbrev pub rule_more : Option Rule → List Rule → List Rule
 rule_more None rules = rules
-rule_more (Some rule) rules = if nat_le MOST_RULES (length rules) then rules else with_rule rule rules
+rule_more (Some rule) rules = if nat_le MAX_RULES (length rules) then rules else with_rule rule rules
 
 -- the rules that the records tell, in order
 abbrev pub rules_told : List Cell → List Rule

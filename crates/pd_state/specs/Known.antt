@@ -5,6 +5,7 @@ use Rattle.std.specs.Option.{is_some}
 use Rattle.pd_types.specs.declared.request.Request.{Request}
 use Rattle.pd_types.specs.declared.request.Request.TheVariants as ask
 use Rattle.pd_types.specs.declared.rule.Rule.{Rule}
+use Rattle.pd_types.specs.declared.rule.TheConstants.{MAX_RULES}
 use Rattle.pd_types.specs.declared.store.Label.{Label}
 use Rattle.pd_types.specs.declared.store.StoreRec.{StoreRec}
 use Rattle.pd_types.specs.declared.store.StoreState.{StoreState}
@@ -12,6 +13,7 @@ use Rattle.pd_types.specs.declared.store.StoreState.TheVariants as states
 use Rattle.meta_store.specs.declared.record.Cell.{Cell}
 use Rattle.meta_store.specs.Cells.{AreRising as AreInKeyOrder}
 use Rattle.store_table.specs.declared.entry.StoreEntry.{StoreEntry}
+use Rattle.store_table.specs.declared.table.TheConstants.{MOST_STORES}
 use Rattle.store_table.specs.Entries.{AreRising, entry_at, state_at}
 use Rattle.id_alloc.specs.Windows.{window_in}
 use Rattle.op_control.specs.Table.{state_of}
@@ -181,19 +183,19 @@ pub record AreKnown (entries : List Entry) (stores : List StoreEntry) : Type 0 w
   pub state : (store : ℕ) (found : StoreEntry) → entry_at store stores ≡ Some found → found.store.state ≡ buried_state (is_entombed store entries) (deleted_state (is_deleted store entries) (state_or_up (record_at store (stores_told (handed_to entries)))))
   pub rising : AreRising stores
 
--- The stores that records tell: each is told by one of them; where the records rise by key and no more than 256 tell a store, each that
--- one of them tells is there; never more than 256 are
+-- The stores that records tell: each is told by one of them; where the records rise by key and no more than `MOST_STORES` tell a store, each that
+-- one of them tells is there; never more than those are
 pub record AreTold (cells : List Cell) (recs : List StoreRec) : Type 0 where
   pub only : (store : ℕ) (rec : StoreRec) → record_at store recs ≡ Some rec → Any (λ cell. store_in cell ≡ Some rec) cells
-  pub every : AreInKeyOrder cells → length (filter_map store_in cells) ≤ 256 → All (λ cell. (rec : StoreRec) → store_in cell ≡ Some rec → record_at rec.id recs ≡ Some rec) cells
-  pub few : length recs ≤ 256
+  pub every : AreInKeyOrder cells → length (filter_map store_in cells) ≤ MOST_STORES → All (λ cell. (rec : StoreRec) → store_in cell ≡ Some rec → record_at rec.id recs ≡ Some rec) cells
+  pub few : length recs ≤ MOST_STORES
 
--- The rules that records tell: each is told by one of them; where the records rise by key and no more than 64 tell a rule, each that
--- one of them tells is there; never more than 64 are
+-- The rules that records tell: each is told by one of them; where the records rise by key and no more than `MAX_RULES` tell a rule, each that
+-- one of them tells is there; never more than those are
 pub record AreRulesTold (cells : List Cell) (rules : List Rule) : Type 0 where
   pub only : (rule : Rule) → Contains rules rule → Any (λ cell. rule_in cell ≡ Some rule) cells
-  pub every : AreInKeyOrder cells → length (filter_map rule_in cells) ≤ 64 → All (λ cell. (rule : Rule) → rule_in cell ≡ Some rule → Contains rules rule) cells
-  pub few : length rules ≤ 64
+  pub every : AreInKeyOrder cells → length (filter_map rule_in cells) ≤ MAX_RULES → All (λ cell. (rule : Rule) → rule_in cell ≡ Some rule → Contains rules rule) cells
+  pub few : length rules ≤ MAX_RULES
 
 -- a term that begins knows the stores and rules that it was handed, has heard of no store and has no region and no operator; the limits of its stores are
 -- full, and its window of ids is the one that its records tell, which is used up

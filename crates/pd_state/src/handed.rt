@@ -7,8 +7,8 @@ ghost use Rattle.pd_state.specs.Steps.{entry_more, loaded_at, set_list};
 
 use crate::rules::{read_told, rule_key};
 use meta_store::{Cell, read_store_text};
-use pd_types::{NoMemory, Rule, Rules};
-use rule_set::{MOST_RULES, RuleSet};
+use pd_types::{MAX_RULES, NoMemory, Rule, Rules};
+use rule_set::RuleSet;
 use std::alloc::Global;
 use store_limit::Limits;
 use store_table::{MOST_STORES, Stores};
@@ -68,7 +68,7 @@ fn take_rule(alloc: Global, rules: &mut Option<RuleSet>, rule: Rule) -> Result<(
         *rules = Some(RuleSet::of(alloc, first)?);
         return Ok(());
     };
-    if set.rules().len() >= MOST_RULES {
+    if set.rules().len() >= MAX_RULES {
         return Ok(());
     }
     match set.set(rule) {

@@ -8,8 +8,8 @@ ghost use Rattle.pd_state.specs.Replies.{removal_refused, set_refused};
 ghost use Rattle.pd_state.specs.StoredRules.{rule_key, rule_told};
 
 use crate::Reply;
-use pd_types::{Bytes, NoMemory, Rule};
-use rule_set::{MOST_RULES, RuleSet};
+use pd_types::{Bytes, MAX_RULES, NoMemory, Rule};
+use rule_set::RuleSet;
 use rule_text::{RuleFault, read_rule};
 use std::alloc::Global;
 
@@ -65,7 +65,7 @@ pub fn default_of(rules: &[Rule]) -> Option<&Rule>
 pub fn set_refusal(rules: &[Rule], rule: &Rule) -> Option<Reply>
     ensures value { result ≡ set_refused (set_refusal rule.now rules.now) }
 {
-    if !knows(rules, rule.group.as_bytes(), rule.id.as_bytes()) && rules.len() >= MOST_RULES {
+    if !knows(rules, rule.group.as_bytes(), rule.id.as_bytes()) && rules.len() >= MAX_RULES {
         return Some(Reply::RuleLimit);
     }
     None

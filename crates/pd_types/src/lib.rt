@@ -33,7 +33,7 @@ pub use oracle::{
 pub use proposal::Proposal;
 pub use region::{DownPeer, Epoch, Peer, Region, RegionBeat, Role};
 pub use request::Request;
-pub use rule::{Constraint, Op, Rule, RuleRole};
+pub use rule::{Constraint, MAX_LOCATIONS, MAX_RULES, Op, Rule, RuleRole};
 pub use stamp::{LOGICAL, MAX_COUNT, pack, packs_and_unpacks, unpack};
 pub use step::{Step, StepMsg};
 pub use store::{Label, StoreRec, StoreState};

@@ -1,6 +1,14 @@
 use crate::{Bytes, Constraints, Duplicate, NoMemory, Text, Texts};
 use std::alloc::Global;
 
+/// How many placement rules are in force at most.
+pub const MAX_RULES: usize = 64;
+
+/// How many location labels a placement rule has at most.
+pub const MAX_LOCATIONS: usize = 4;
+
+const _: () = prove!(MAX_RULES == 64 && MAX_LOCATIONS == 4);
+
 /// How a label constraint tests the value of its label (PD documentation, "Placement Rules").
 #[derive(Clone, Copy, Debug, PartialEq, Eq)]
 pub enum Op {

@@ -11,6 +11,7 @@ ghost use Rattle.rule_checker.specs.Best.{IsBestOf};
 ghost use Rattle.rule_checker.specs.Candidates.{new_on, pool};
 ghost use Rattle.rule_checker.specs.Measure.{HasNumber, Lowers};
 ghost use Rattle.rule_checker.specs.Ranks.{stores_of};
+ghost use Rattle.pd_types.specs.declared.beat.TheConstants.{MAX_PEERS};
 
 use crate::candidate::{new_on, takes_new};
 use crate::case::Case;
@@ -80,7 +81,7 @@ fn weigh(
     requires free { has_id 0 on.beat.now ≡ false }
     requires roomy { AreRoomy (question on.beat.now on.rules.now on.stores.now on.now) on.rules.now (map (λ rule. rule.now) roomy.now) }
     requires others { map (λ other. other.now) others.now ≡ labels_of_all (stores_of on.beat.now.region.peers) on.stores.now }
-    requires few { length others.now ≤ 15 }
+    requires few { length others.now ≤ MAX_PEERS }
     requires known { entry_at entry.now.store.id on.stores.now ≡ Some entry.now }
     requires held { Contains (pool class on.beat.now on.stores.now) (new_on entry.now.store.id) }
     ensures some { IfSome result (Lowers class on.entry.beat.now on.entry.rules.now on.entry.stores.now on.entry.now from) }

@@ -1,6 +1,8 @@
 // A region with what it is judged by.
 ghost use Rattle.std.specs.Prelude.{◌≤◌, length, All};
 ghost use Rattle.rule_set.specs.RuleSets.{HasFewLocations};
+ghost use Rattle.pd_types.specs.declared.beat.TheConstants.{MAX_PEERS};
+ghost use Rattle.pd_types.specs.declared.rule.TheConstants.{MAX_RULES};
 
 use heartbeat::Standing;
 use pd_types::{RegionBeat, Rules};
@@ -15,7 +17,7 @@ pub struct Case<'a> {
     pub stores: &'a Stores,
     pub standing: &'a Standing,
     pub now: u64,
-    ghost peers: { length beat.now.region.peers ≤ 15 },
-    ghost few: { length rules.now ≤ 64 },
+    ghost peers: { length beat.now.region.peers ≤ MAX_PEERS },
+    ghost few: { length rules.now ≤ MAX_RULES },
     ghost locations: { All HasFewLocations rules.now },
 }

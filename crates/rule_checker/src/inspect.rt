@@ -8,6 +8,7 @@ ghost use Rattle.rule_checker.specs.Measure.{HasNumber};
 ghost use Rattle.rule_checker.specs.Ranks.{place_of};
 ghost use Rattle.rule_checker.specs.Told.{tells, told_of};
 ghost use Rattle.rule_checker.specs.declared.class.Class.{Class};
+ghost use Rattle.pd_types.specs.declared.beat.TheConstants.{MAX_PEERS};
 
 use crate::best::best_of;
 use crate::candidate::steps_of;
@@ -125,7 +126,7 @@ pub fn check(
     standing: &Standing,
     now: u64,
 ) -> Result<Verdict, NoMemory>
-    requires peers { length beat.now.region.peers ≤ 15 }
+    requires peers { length beat.now.region.peers ≤ MAX_PEERS }
     requires apart { AreApart beat.now.region.peers }
     ensures verdict { IfOk result (IsVerdict beat.now rules.now stores.now standing.now now) }
     ensures lowers { IfOk result (LowersNumber beat.now rules.now stores.now now) }

@@ -1,11 +1,11 @@
 use crate::{Verdict, check};
 use heartbeat::Standing;
 use pd_types::{
-    Bytes, Constraint, Constraints, Downs, Epoch, Ids, Label, Labels, MAX_PEERS, Op, Peer, Peers,
-    Region, RegionBeat, Role, Rule, RuleRole, StoreRec, StoreState, Text, Texts,
+    Bytes, Constraint, Constraints, Downs, Epoch, Ids, Label, Labels, MAX_LOCATIONS, MAX_PEERS, Op,
+    Peer, Peers, Region, RegionBeat, Role, Rule, RuleRole, StoreRec, StoreState, Text, Texts,
 };
 use rule_fit::{Certificate, are_apart};
-use rule_set::{MOST_LOCATIONS, RuleSet};
+use rule_set::RuleSet;
 use std::alloc::Global;
 use std::test::Fail;
 use store_table::Stores;
@@ -58,7 +58,7 @@ fn ruled(
 
 // Sets a rule that has few location labels, as each rule here.
 fn put_rule(rules: &mut RuleSet, one: Rule) -> Result<(), Fail> {
-    if one.locations.len() > MOST_LOCATIONS {
+    if one.locations.len() > MAX_LOCATIONS {
         return Err(Fail::new("too many location labels"));
     }
     rules.set(one)?;

@@ -5,6 +5,7 @@ ghost use Rattle.rule_fit.specs.Isolation.{score_among};
 ghost use Rattle.rule_checker.specs.Ranks.{comes_first, is_before, locations_by, other_stores, score_beside, score_of, stores_of, wins_tie};
 ghost use Rattle.pd_types.specs.Numbers.{lesser_then};
 ghost use Rattle.rule_checker.specs.Best.{better_of};
+ghost use Rattle.pd_types.specs.declared.beat.TheConstants.{MAX_PEERS};
 
 use crate::case::Case;
 use crate::{Class, Ranked};
@@ -16,7 +17,7 @@ use std::alloc::Global;
 /// The isolation score of a store with these labels beside stores with those, by the location
 /// labels of the first rule whose constraints it satisfies.
 pub fn score_by_rules(on: Case, own: &[Label], others: &[&[Label]]) -> u64
-    requires others { length others.now ≤ 15 }
+    requires others { length others.now ≤ MAX_PEERS }
     ensures { result ≡ score_among own.now (map (λ other. other.now) others.now) (locations_by on.entry.rules.now own.now) }
 {
     for rule in on.rules.as_slice() {
@@ -29,7 +30,7 @@ pub fn score_by_rules(on: Case, own: &[Label], others: &[&[Label]]) -> u64
 
 // The isolation score of the store beside others.
 fn score_beside(alloc: Global, on: Case, store: u64, others: &Ids) -> Result<u64, NoMemory>
-    requires others { length others.now ≤ 15 }
+    requires others { length others.now ≤ MAX_PEERS }
     ensures { IfOk result (λ score. score ≡ score_beside on.entry.rules.now on.entry.stores.now store others.now) }
 {
     let others = labels_of_all(alloc, on.stores, others)?;

@@ -2,6 +2,7 @@ ghost use Rattle.std.specs.Prelude.{◌≡◌, ◌≤◌, length, IfOk};
 ghost use Rattle.rule_fit.specs.Assignment.{placed, IsAssignment, IsGreatest};
 ghost use Rattle.rule_fit.specs.Table.{suits};
 ghost use Rattle.rule_fit.specs.Search.{IsClosed};
+ghost use Rattle.pd_types.specs.declared.rule.TheConstants.{MAX_RULES};
 
 use crate::search::{Found, augment, search};
 use pd_types::NoMemory;
@@ -16,7 +17,7 @@ pub struct Matching {
 
 /// Gives the most peers a rule.
 pub fn greatest(alloc: Global, table: &[Vec<bool>], counts: &[u32]) -> Result<Matching, NoMemory>
-    requires { length counts.now ≤ 64 }
+    requires { length counts.now ≤ MAX_RULES }
     ensures assigned { IfOk result (λ g. IsAssignment (suits table.now) (length table.now) counts.now g.given.items) }
     ensures greatest { IfOk result (λ g. IsGreatest (suits table.now) (length table.now) counts.now g.given.items) }
     ensures closed { IfOk result (λ g. IsClosed (suits table.now) (length table.now) counts.now g.given.items g.reached.items) }

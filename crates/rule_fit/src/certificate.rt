@@ -4,6 +4,7 @@ ghost use Rattle.rule_fit.specs.Chosen.{wanted, capacity, size_of};
 ghost use Rattle.rule_fit.specs.Ids.{chosen_by};
 ghost use Rattle.rule_fit.specs.Question.{CertifiesIn, question};
 ghost use Rattle.rule_fit.specs.Suits.{suits_in, counts_of};
+ghost use Rattle.pd_types.specs.declared.rule.TheConstants.{MAX_RULES};
 
 use crate::Certificate;
 use crate::ids::{are_peers, is_chosen};
@@ -13,7 +14,7 @@ use store_table::Stores;
 
 /// The sum of the rules' counts.
 pub fn total(rules: &[Rule]) -> u64
-    requires { length rules.now ≤ 64 }
+    requires { length rules.now ≤ MAX_RULES }
     ensures value { result ≡ sum (counts_of rules.now) }
     ensures bound { result ≤ length rules.now * 2 ^ 32 }
 {
@@ -81,7 +82,7 @@ fn is_wanted(
 
 // The sum of the counts of the rules that one of these peers suits.
 fn capacity(beat: &RegionBeat, rules: &[Rule], stores: &Stores, now: u64, ids: &[u64]) -> u64
-    requires { length rules.now ≤ 64 }
+    requires { length rules.now ≤ MAX_RULES }
     ensures { result ≡ capacity (counts_of rules.now) (wanted (suits_in beat.now rules.now stores.now now) (length beat.now.region.peers) (chosen_by ids.now beat.now.region.peers)) }
 {
     let mut capacity = 0;
@@ -108,7 +109,7 @@ fn size(peers: &[Peer], ids: &[u64]) -> u64
 
 // Whether the peers with these ids have a smaller sum of counts than they are many.
 fn lack(beat: &RegionBeat, rules: &[Rule], stores: &Stores, now: u64, ids: &[u64]) -> bool
-    requires { length rules.now ≤ 64 }
+    requires { length rules.now ≤ MAX_RULES }
     ensures { IsTrue result ↔ Lacks (suits_in beat.now rules.now stores.now now) beat.now.region.peers (counts_of rules.now) ids.now }
 {
     let peers = beat.region.peers.as_slice();
@@ -117,7 +118,7 @@ fn lack(beat: &RegionBeat, rules: &[Rule], stores: &Stores, now: u64, ids: &[u64
 
 // Whether these are the sum of the counts and the number of peers, and differ.
 fn differ(peers: &[Peer], rules: &[Rule], counts: u64, many: u64) -> bool
-    requires { length rules.now ≤ 64 }
+    requires { length rules.now ≤ MAX_RULES }
     ensures { IsTrue result ↔ Differ (length peers.now) (counts_of rules.now) counts many }
 {
     counts == total(rules) && many == peers.len() as u64 && counts != many
@@ -132,7 +133,7 @@ pub fn check_certificate(
     stores: &Stores,
     now: u64,
 ) -> bool
-    requires { length rules.now ≤ 64 }
+    requires { length rules.now ≤ MAX_RULES }
     ensures value { IsTrue result ↔ CertifiesIn (question beat.now rules.now stores.now now) certificate.now }
 {
     match certificate {

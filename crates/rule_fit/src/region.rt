@@ -2,6 +2,8 @@ ghost use Rattle.std.specs.Prelude.{◌≤◌, ◌↔◌, length, IfOk, IsTrue};
 ghost use Rattle.rule_fit.specs.Fit.{given_of, says_fits};
 ghost use Rattle.rule_fit.specs.Ids.{AreApart};
 ghost use Rattle.rule_fit.specs.Question.{FitsIn, HasItsKindIn, IsCertifiedIn, IsGreatestIn, IsMisfitIn, question};
+ghost use Rattle.pd_types.specs.declared.beat.TheConstants.{MAX_PEERS};
+ghost use Rattle.pd_types.specs.declared.rule.TheConstants.{MAX_RULES};
 
 use crate::assign::{Matching, placed};
 use crate::certificate::total;
@@ -20,7 +22,7 @@ fn fit_rules(
     stores: &Stores,
     now: u64,
 ) -> Result<Fit, NoMemory>
-    requires rules { length rules.now ≤ 64 }
+    requires rules { length rules.now ≤ MAX_RULES }
     requires apart { AreApart beat.now.region.peers }
     ensures fits { IfOk result (λ fit. IsTrue (says_fits fit) ↔ FitsIn (question beat.now rules.now stores.now now)) }
     ensures greatest { IfOk result (λ fit. IsGreatestIn (question beat.now rules.now stores.now now) (given_of fit)) }
@@ -63,8 +65,8 @@ pub fn fit(
     stores: &Stores,
     now: u64,
 ) -> Result<Fit, NoMemory>
-    requires peers { length beat.now.region.peers ≤ 15 }
-    requires rules { length rules.now ≤ 64 }
+    requires peers { length beat.now.region.peers ≤ MAX_PEERS }
+    requires rules { length rules.now ≤ MAX_RULES }
     requires apart { AreApart beat.now.region.peers }
     ensures fits { IfOk result (λ fit. IsTrue (says_fits fit) ↔ FitsIn (question beat.now rules.now stores.now now)) }
     ensures greatest { IfOk result (λ fit. IsGreatestIn (question beat.now rules.now stores.now now) (given_of fit)) }
@@ -82,8 +84,8 @@ fn misfit_of(
     stores: &Stores,
     now: u64,
 ) -> Result<u64, NoMemory>
-    requires peers { length beat.now.region.peers ≤ 15 }
-    requires rules { length rules.now ≤ 64 }
+    requires peers { length beat.now.region.peers ≤ MAX_PEERS }
+    requires rules { length rules.now ≤ MAX_RULES }
     ensures { IfOk result (IsMisfitIn (question beat.now rules.now stores.now now)) }
 {
     let Matching { given, .. } = matching(alloc, beat, rules, stores, now)?;
@@ -102,8 +104,8 @@ pub fn misfit_number(
     stores: &Stores,
     now: u64,
 ) -> Result<u64, NoMemory>
-    requires peers { length beat.now.region.peers ≤ 15 }
-    requires rules { length rules.now ≤ 64 }
+    requires peers { length beat.now.region.peers ≤ MAX_PEERS }
+    requires rules { length rules.now ≤ MAX_RULES }
     ensures value { IfOk result (IsMisfitIn (question beat.now rules.now stores.now now)) }
 {
     misfit_of(alloc, beat, rules.as_slice(), stores, now)

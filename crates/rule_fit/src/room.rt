@@ -4,6 +4,7 @@ ghost use Rattle.rule_fit.specs.Assignment.{IsGreatest};
 ghost use Rattle.rule_fit.specs.Question.{AreRoomsIn, question};
 ghost use Rattle.rule_fit.specs.Room.{AreRooms, HasRoom};
 ghost use Rattle.rule_fit.specs.Table.{suits};
+ghost use Rattle.pd_types.specs.declared.rule.TheConstants.{MAX_RULES};
 
 use crate::assign::{greatest, placed};
 use crate::search::held;
@@ -20,7 +21,7 @@ fn has_room(
     given: &[Option<u32>],
     rule: usize,
 ) -> Result<bool, NoMemory>
-    requires few { length counts.now ≤ 64 }
+    requires few { length counts.now ≤ MAX_RULES }
     requires known { rule < length counts.now }
     requires greatest { IsGreatest (suits table.now) (length table.now) counts.now given.now }
     ensures { IfOk result (λ room. IsTrue room ↔ HasRoom (suits table.now) (length table.now) counts.now rule) }
@@ -45,7 +46,7 @@ fn rooms_beside(
     counts: &[u32],
     given: &[Option<u32>],
 ) -> Result<Vec<bool>, NoMemory>
-    requires few { length counts.now ≤ 64 }
+    requires few { length counts.now ≤ MAX_RULES }
     requires greatest { IsGreatest (suits table.now) (length table.now) counts.now given.now }
     ensures { IfOk result (λ rooms. AreRooms (suits table.now) (length table.now) counts.now rooms.items) }
 {
@@ -65,7 +66,7 @@ fn rooms_of(
     stores: &Stores,
     now: u64,
 ) -> Result<Vec<bool>, NoMemory>
-    requires { length rules.now ≤ 64 }
+    requires { length rules.now ≤ MAX_RULES }
     ensures { IfOk result (λ rooms. AreRoomsIn (question beat.now rules.now stores.now now) rooms.items) }
 {
     let peers = beat.region.peers.as_slice();
@@ -85,7 +86,7 @@ pub fn rooms(
     stores: &Stores,
     now: u64,
 ) -> Result<Vec<bool>, NoMemory>
-    requires rules { length rules.now ≤ 64 }
+    requires rules { length rules.now ≤ MAX_RULES }
     ensures value { IfOk result (λ rooms. AreRoomsIn (question beat.now rules.now stores.now now) rooms.items) }
 {
     rooms_of(alloc, beat, rules.as_slice(), stores, now)

@@ -3,6 +3,7 @@ ghost use Rattle.rule_fit.specs.Assignment.{held, has, placed, IsAssignment};
 ghost use Rattle.rule_fit.specs.Table.{suits};
 ghost use Rattle.rule_fit.specs.Trail.{IsTrail, peer_at, from_at};
 ghost use Rattle.rule_fit.specs.Search.{IsSearch, Extends, Finds, marked};
+ghost use Rattle.pd_types.specs.declared.rule.TheConstants.{MAX_RULES};
 
 use pd_types::NoMemory;
 use std::alloc::Global;
@@ -40,7 +41,7 @@ pub fn held(given: &[Option<u32>], rule: u32) -> usize
 
 /// The first rule that the peer suits and that has room.
 fn open_rule(table: &[Vec<bool>], counts: &[u32], given: &[Option<u32>], peer: usize) -> Option<u32>
-    requires { length counts.now ≤ 64 }
+    requires { length counts.now ≤ MAX_RULES }
     ensures some { IfSome result (λ r. r < length counts.now) }
     ensures suited { IfSome result (λ r. suits table.now peer r ≡ true) }
     ensures room { IfSome result (λ r. held given.now r < slice_index counts.now r) }
@@ -159,7 +160,7 @@ pub fn search(
     counts: &[u32],
     given: &[Option<u32>],
 ) -> Result<Found, NoMemory>
-    requires { length counts.now ≤ 64 }
+    requires { length counts.now ≤ MAX_RULES }
     ensures { IfOk result (Finds (suits table.now) counts.now given.now) }
 {
     let (mut queue, mut reached) = start(alloc, given)?;

@@ -2,6 +2,7 @@ ghost use Rattle.std.specs.Prelude.{◌≡◌, ◌≤◌, length, map, IfOk};
 ghost use Rattle.rule_fit.specs.Question.{IsAssignmentIn, IsGreatestIn, question};
 ghost use Rattle.rule_fit.specs.Search.{IsClosed};
 ghost use Rattle.rule_fit.specs.Suits.{peer_suits, suits_in, counts_of};
+ghost use Rattle.pd_types.specs.declared.rule.TheConstants.{MAX_RULES};
 
 use crate::assign::{Matching, greatest};
 use crate::suiting::suits_on;
@@ -66,7 +67,7 @@ pub fn matching(
     stores: &Stores,
     now: u64,
 ) -> Result<Matching, NoMemory>
-    requires { length rules.now ≤ 64 }
+    requires { length rules.now ≤ MAX_RULES }
     ensures assigned { IfOk result (λ g. IsAssignmentIn (question beat.now rules.now stores.now now) g.given.items) }
     ensures greatest { IfOk result (λ g. IsGreatestIn (question beat.now rules.now stores.now now) g.given.items) }
     ensures closed { IfOk result (λ g. IsClosed (suits_in beat.now rules.now stores.now now) (length beat.now.region.peers) (counts_of rules.now) g.given.items g.reached.items) }

@@ -3,7 +3,7 @@ use Rattle.std.specs.Prelude.{◌≡◌, ℕ, nat_le, ◌==◌, Bool, false, if�
 use Rattle.std.specs.List.{list_any}
 use Rattle.pd_types.specs.declared.rule.Rule.{Rule}
 use Rattle.pd_types.specs.declared.rule.RuleRole.TheVariants.{Voter}
-use Rattle.rule_set.specs.declared.set.TheConstants.{MOST_RULES}
+use Rattle.pd_types.specs.declared.rule.TheConstants.{MAX_RULES}
 use Rattle.rule_set.specs.declared.fault.SetFault.{SetFault}
 use Rattle.rule_set.specs.declared.fault.SetFault.TheVariants.{Limit, NoMemory}
 use Rattle.rule_set.specs.declared.fault.RemoveFault.{RemoveFault}
@@ -25,7 +25,7 @@ set_of rules = fold (λ before rule. with_rule rule before) [] rules
 -- of setting a rule: there are 64 rules and this one isn't among them
 abbrev pub set_refusal : Rule → List Rule → Option SetFault
 set_refusal rule rules =
-    if knows rule.group rule.id rules then None else (if nat_le MOST_RULES (length rules) then Some Limit else None)
+    if knows rule.group rule.id rules then None else (if nat_le MAX_RULES (length rules) then Some Limit else None)
 
 -- the fault is the refusal that applies, or want of memory
 abbrev pub RefusedBy : Option SetFault → SetFault → Type 0

@@ -3,9 +3,8 @@ ghost use Rattle.rule_set.specs.Order.{AreNamedApart};
 ghost use Rattle.rule_set.specs.Changes.{knows};
 ghost use Rattle.rule_set.specs.RuleSets.{HasFewLocations};
 
-use crate::MOST_LOCATIONS;
 use crate::order::is_named;
-use pd_types::Rule;
+use pd_types::{MAX_LOCATIONS, Rule};
 
 /// Whether one of the rules has this group and id.
 pub fn knows(rules: &[Rule], group: &[u8], id: &[u8]) -> bool
@@ -31,7 +30,7 @@ pub fn have_few_locations(rules: &[Rule]) -> bool
     ensures { IsTrue result ↔ All HasFewLocations rules.now }
 {
     for rule in rules {
-        if rule.locations.len() > MOST_LOCATIONS {
+        if rule.locations.len() > MAX_LOCATIONS {
             return false;
         }
     }

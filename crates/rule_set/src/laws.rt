@@ -10,14 +10,14 @@ ghost use Rattle.rule_set.specs.Changes.{default_rule, knows, remove_refusal, se
 ghost use Rattle.rule_set.specs.InForce.{holds, hides};
 ghost use Rattle.rule_set.specs.Borders.{IsBorder};
 
-use crate::{MOST_LOCATIONS, MOST_RULES};
+use pd_types::{MAX_LOCATIONS, MAX_RULES};
 
-const _: () = prove!(MOST_RULES == 64 && MOST_LOCATIONS == 4);
+const _: () = prove!(MAX_RULES == 64 && MAX_LOCATIONS == 4);
 
 /// The numbers, which are our own.
 pub fn the_numbers()
-    ensures rules { MOST_RULES ≡ 64 }
-    ensures locations { MOST_LOCATIONS ≡ 4 }
+    ensures rules { MAX_RULES ≡ 64 }
+    ensures locations { MAX_LOCATIONS ≡ 4 }
 {}
 
 /// A rule that is set takes the place of the one of its group and id, and a rule that is removed is

@@ -18,4 +18,4 @@ pub use laws::{
     group_then_index_then_id, rules_go_by_their_names, the_numbers, the_refusals_of_a_rule,
     three_voters_anywhere,
 };
-pub use set::{MOST_LOCATIONS, MOST_RULES, RuleSet};
+pub use set::RuleSet;

@@ -1,7 +1,7 @@
 ghost use Rattle.std.specs.Vec.{vec_capacity};
 ghost use Rattle.std.specs.Prelude.{◌≡◌, ◌↔◌, All, ◌<◌, ◌≤◌, ℕ, None, Some, IfOk, IfErr, OnOk, OnErr, ◌&&◌, not, Contains, List, length, vec_len, [], ◌∷◌};
 ghost use Rattle.pd_types.specs.declared.rule.Rule.{Rule};
-ghost use Rattle.rule_set.specs.declared.set.TheConstants.{MOST_RULES};
+ghost use Rattle.pd_types.specs.declared.rule.TheConstants.{MAX_RULES};
 ghost use Rattle.rule_set.specs.Order.{AreInOrder, AreNamedApart, without};
 ghost use Rattle.rule_set.specs.RuleSets.{HasFewLocations, IsRuleSet};
 ghost use Rattle.rule_set.specs.Changes.{knows, with_rule, set_of, set_refusal, remove_refusal, RefusedBy, default_rule};
@@ -15,17 +15,12 @@ use crate::order::{hides, holds};
 use crate::places::{place, take_out};
 use crate::{RemoveFault, SetFault};
 use pd_types::{
-    Bytes, Constraints, Duplicate, Keys, NoMemory, Region, Rule, RuleRole, Rules, Text, Texts,
+    Bytes, Constraints, Duplicate, Keys, MAX_RULES, NoMemory, Region, Rule, RuleRole, Rules, Text,
+    Texts,
 };
 use std::alloc::Global;
 use std::marker::Model;
 use std::mem;
-
-/// A set has at most this many rules.
-pub const MOST_RULES: usize = 64;
-
-/// A rule in a set has at most this many location labels.
-pub const MOST_LOCATIONS: usize = 4;
 
 /// The placement rules of a cluster, from 1 to 64. Contracts see them as a list in order of group,
 /// index and id.
@@ -86,7 +81,7 @@ fn set_in(rules: &mut Vec<Rule>, rule: Rule) -> Result<(), SetFault>
     ensures err { OnErr result (rules.new.items ≡ rules.old.items) }
     ensures rules { IsRuleSet rules.new.items }
 {
-    if !knows(rules, rule.group.as_bytes(), rule.id.as_bytes()) && rules.len() >= MOST_RULES {
+    if !knows(rules, rule.group.as_bytes(), rule.id.as_bytes()) && rules.len() >= MAX_RULES {
         return Err(SetFault::Limit);
     }
     let Ok(()) = rules.reserve(1) else {
@@ -154,7 +149,7 @@ impl RuleSet {
     /// most 4 location labels (`have_few_locations`).
     pub fn of(alloc: Global, rules: Rules) -> Result<RuleSet, NoMemory>
         requires some { 0 < length rules }
-        requires few { length rules ≤ MOST_RULES }
+        requires few { length rules ≤ MAX_RULES }
         requires names { AreNamedApart rules }
         requires locations { All HasFewLocations rules }
         ensures value { IfOk result (λ set. set ≡ set_of rules) }
@@ -208,7 +203,7 @@ impl RuleSet {
         ensures members { IfOk result (λ rules. (rule : Rule) → Contains rules rule ↔ IsInForce self.now key.now rule) }
         ensures order { IfOk result AreInOrder }
         ensures names { IfOk result AreNamedApart }
-        ensures few { IfOk result (λ rules. length rules ≤ MOST_RULES) }
+        ensures few { IfOk result (λ rules. length rules ≤ MAX_RULES) }
         ensures locations { IfOk result (All HasFewLocations) }
     {
         in_force(self.alloc, self.rules.as_slice(), key)

@@ -21,6 +21,10 @@ heard seen v = record v {
   seen = greater v.seen seen;
 }
 
+-- above each word that a step finds: a cursor stands at most 64 ms past a saved end, which is below 2^45 ms
+abbrev pub word_end : ℕ
+word_end = 2 ^ 63 + 2 ^ 26
+
 -- the cell that it knows is in range
 abbrev pub CellFits : View → Type 0
 CellFits v = IsCell v.cell
@@ -52,5 +56,5 @@ Suits AddArmed v = HandFits v × (added_by v.client (hand v).driver v.added + v.
 pub record IsReady (step : WordStep) (words : List ℕ) (batches : List Batch) (v : View) : Type 0 where
   pub place : word_of step v < length words
   pub suits : Suits step v
-  pub found : slice_index words (word_of step v) < 2 ^ 63 + 2 ^ 26
+  pub found : slice_index words (word_of step v) < word_end
   pub sorted : IsNonDecreasingBy (λ (b : Batch). b.term) batches

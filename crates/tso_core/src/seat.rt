@@ -1,11 +1,11 @@
 // What an actor knows and did, in memory.
-ghost use Rattle.std.specs.Prelude.{◌≡◌, ◌<◌, ◌≤◌, ◌+◌, ◌^◌, OnOk};
+ghost use Rattle.std.specs.Prelude.{◌≡◌, ◌<◌, ◌≤◌, ◌+◌, OnOk};
 ghost use Rattle.tso_model.specs.Moves.{blank, new_note, spent_view};
 ghost use Rattle.tso_model.specs.Steps.{held, hand, word_of, word_after};
 ghost use Rattle.tso_model.specs.Words.{cell_word, packed};
 ghost use Rattle.tso_core.specs.Done.{done_of};
 ghost use Rattle.tso_core.specs.Driving.{has_term_for};
-ghost use Rattle.tso_core.specs.Ready.{heard, CellFits, HeldFits, Suits};
+ghost use Rattle.tso_core.specs.Ready.{heard, word_end, CellFits, HeldFits, Suits};
 ghost use Rattle.tso_core.specs.Seated.{with_view, seat_after};
 ghost use Rattle.tso_core.specs.Steps.{client_due};
 
@@ -241,7 +241,7 @@ impl Seat {
     #[inline(always)]
     pub fn make(&mut self, step: WordStep, found: u64) -> Done
         requires suits { Suits step self.old.view }
-        requires found { found < 2 ^ 63 + 2 ^ 26 }
+        requires found { found < word_end }
         requires room { 0 < self.old.spare }
         ensures done { result ≡ done_of step found self.old.view }
         ensures after { self.new ≡ seat_after step found self.old }

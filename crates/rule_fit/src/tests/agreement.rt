@@ -4,12 +4,14 @@
 // label of its own.
 ghost use Rattle.std.specs.Prelude.{◌<◌, ◌≤◌, length};
 ghost use Rattle.rule_fit.specs.Ids.{AreApart};
+ghost use Rattle.pd_types.specs.declared.beat.TheConstants.{MAX_PEERS};
+ghost use Rattle.pd_types.specs.declared.rule.TheConstants.{MAX_RULES};
 
 use super::{constraint, put_store, region, rule, text};
 use crate::{Certificate, Fit, Places, are_apart, check_certificate, fit, misfit_number};
 use pd_types::{
-    Constraint, Constraints, Label, Labels, Op, Peer, Peers, RegionBeat, Role, RuleRole, Rules,
-    StoreRec, StoreState, Texts,
+    Constraint, Constraints, Label, Labels, MAX_PEERS, MAX_RULES, Op, Peer, Peers, RegionBeat,
+    Role, RuleRole, Rules, StoreRec, StoreState, Texts,
 };
 use std::alloc::Global;
 use std::test::Fail;
@@ -192,8 +194,8 @@ fn fast(
     rules: &Rules,
     stores: &Stores,
 ) -> Result<Option<Best>, Fail>
-    requires peers { length beat.now.region.peers ≤ 15 }
-    requires rules { length rules.now ≤ 64 }
+    requires peers { length beat.now.region.peers ≤ MAX_PEERS }
+    requires rules { length rules.now ≤ MAX_RULES }
     requires apart { AreApart beat.now.region.peers }
 {
     match fit(alloc, beat, rules, stores, 20)? {
@@ -225,7 +227,7 @@ fn agrees(
     let mut beat = region(alloc, &[])?;
     beat.region.peers = masked_peers(alloc, masks, many as usize)?;
     let peers = beat.region.peers.as_slice();
-    if peers.len() > 15 || rules.len() > 64 || !are_apart(peers) {
+    if peers.len() > MAX_PEERS || rules.len() > MAX_RULES || !are_apart(peers) {
         return Ok(false);
     }
     let best = plain(masks, counts, many);
@@ -322,7 +324,7 @@ fn two_rules_of_one_zone_do_not_fit(rt: HostRuntime) -> Result<(), Fail> {
         rules.push(rule(alloc, RuleRole::Voter, 1, constraints)?)?;
     }
     assert!(rt; are_apart(beat.region.peers.as_slice()));
-    assert!(rt; beat.region.peers.len() <= 15 && rules.len() <= 64);
+    assert!(rt; beat.region.peers.len() <= MAX_PEERS && rules.len() <= MAX_RULES);
     match fit(alloc, &beat, &rules, &stores, 1000)? {
         Fit::Fits { .. } => panic!(rt; "a rule is left without a peer"),
         Fit::Misfit { given, certificate } => {
@@ -351,7 +353,7 @@ fn takes_fifteen_peers_and_sixty_four_rules(rt: HostRuntime) -> Result<(), Fail>
         rules.push(rule(alloc, RuleRole::Voter, 1, constraints)?)?;
     }
     assert!(rt; are_apart(beat.region.peers.as_slice()));
-    assert!(rt; beat.region.peers.len() <= 15 && rules.len() <= 64);
+    assert!(rt; beat.region.peers.len() <= MAX_PEERS && rules.len() <= MAX_RULES);
     assert_eq!(rt;
         fast(alloc, &beat, &rules, &stores)?,
         Some(Best {

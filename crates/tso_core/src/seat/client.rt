@@ -5,7 +5,7 @@ ghost use Rattle.tso_model.specs.declared.step.WordStep.TheVariants.{LoadLimit, 
 ghost use Rattle.tso_model.specs.History.{added_by};
 ghost use Rattle.tso_model.specs.Steps.{hand};
 ghost use Rattle.tso_core.specs.Done.{done_of};
-ghost use Rattle.tso_core.specs.Ready.{HandFits};
+ghost use Rattle.tso_core.specs.Ready.{word_end, HandFits};
 ghost use Rattle.tso_core.specs.Seated.{seat_after};
 
 use crate::Done;
@@ -45,7 +45,7 @@ impl Seat {
     pub(super) fn arm(&mut self, n: u64, at: u64) -> Done
         requires fits { HandFits self.old.view }
         requires n { n < LOGICAL }
-        requires found { at < 2 ^ 63 + 2 ^ 26 }
+        requires found { at < word_end }
         requires room { 0 < self.old.spare }
         ensures done { result ≡ done_of (ArmCount n) at self.old.view }
         ensures after { self.new ≡ seat_after (ArmCount n) at self.old }
@@ -74,7 +74,7 @@ impl Seat {
     #[inline(always)]
     pub(super) fn draw(&mut self, at: u64) -> Done
         requires fits { HandFits self.old.view }
-        requires found { at < 2 ^ 63 + 2 ^ 26 }
+        requires found { at < word_end }
         requires sum { added_by self.old.view.client (hand self.old.view).driver self.old.view.added + self.old.view.armed < 2 ^ 64 }
         requires room { 0 < self.old.spare }
         ensures done { result ≡ done_of AddArmed at self.old.view }
