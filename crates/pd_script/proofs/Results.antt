@@ -41,4 +41,3 @@ in_place p (Some m) n is = within_range p m n (nat_le (least p) m) (nat_le m (mo
 pub then_read : {A B : Type 0} (r : Result A Reason) (next : A → Result B Reason) (b : B) → and_then r next ≡ Ok b → (a : A) × (r ≡ Ok a) × (next a ≡ Ok b)
 then_read (Ok a) next b is = (a, refl, is)
 then_read (Err reason) next b is = no_fine reason b is
-
