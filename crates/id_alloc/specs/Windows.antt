@@ -11,6 +11,7 @@ use Rattle.meta_store.specs.Cells.{cell_at, revision_in}
 use Rattle.meta_store.specs.Doors.{answer_of, told_more, Spoken}
 use Rattle.id_alloc.specs.declared.fault.IdFault.{IdFault}
 use Rattle.id_alloc.specs.declared.fault.IdFault.TheVariants as faults
+use Rattle.id_alloc.specs.declared.window.TheConstants.{FIRST_END, WINDOW}
 
 -- a window: its ids go up to the end, and those up to `taken` are taken; the record `id` had this revision when the window was saved or found
 pub record Window : Type 0 where
@@ -25,7 +26,7 @@ id_key = codes "id"
 -- an end that was read; 1,000,000 where none was
 abbrev pub end_or : Option ℕ → ℕ
 end_or (Some end) = end
-end_or None = 1000000
+end_or None = FIRST_END
 
 -- the end that a record tells
 abbrev pub end_in : Option Cell → ℕ
@@ -42,11 +43,11 @@ is_used_up window = nat_eq window.taken window.end
 
 -- the next window would end at 2^63 or later, so that there is none
 abbrev pub is_spent : Window → Bool
-is_spent window = nat_le (2 ^ 63) (window.end + 1000)
+is_spent window = nat_le (2 ^ 63) (window.end + WINDOW)
 
 -- the write that saves the next window: a thousand ids more, where the record is as it was known
 abbrev pub id_call : ℕ → Window → MetaCall
-id_call term window = calls.Put term id_key window.revision (decimal (window.end + 1000))
+id_call term window = calls.Put term id_key window.revision (decimal (window.end + WINDOW))
 
 -- the window with its next id taken
 abbrev pub with_next : Window → Window
@@ -54,7 +55,7 @@ with_next window = record { end = window.end; revision = window.revision; taken 
 
 -- the next window, saved at this revision, with the first of its ids taken
 abbrev pub with_saved : Window → ℕ → Window
-with_saved window revision = record { end = window.end + 1000; revision = revision; taken = window.end + 1 }
+with_saved window revision = record { end = window.end + WINDOW; revision = revision; taken = window.end + 1 }
 
 -- the next id is one that was left
 pub record TakesLeft (old new : Window) (id : ℕ) : Type 0 where

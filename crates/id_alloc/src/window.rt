@@ -13,10 +13,10 @@ use std::alloc::Global;
 use std::marker::Model;
 
 /// The end where no window was ever saved.
-const FIRST_END: u64 = 1_000_000;
+pub const FIRST_END: u64 = 1_000_000;
 
 /// How many ids a window has.
-const WINDOW: u64 = 1000;
+pub const WINDOW: u64 = 1000;
 
 /// Ids up to an end that is saved in the record `id`. Contracts see the end, the revision at which
 /// the window was saved or found, and the last id that is taken.

@@ -9,6 +9,7 @@ use Rattle.pd_types.specs.declared.request.Request.TheVariants.{Hello, Alive, Be
 use Rattle.pd_lines.specs.Labels.{AreLabels}
 use Rattle.pd_lines.specs.Plain.{is_plain}
 use Rattle.pd_script.specs.RuleLines.{is_name}
+use Rattle.pd_script.specs.declared.rules.TheConstants.{MAX_JSON}
 
 -- the id of a store, a region or a peer: 1 to 2^63 - 1
 pub record IsId (n : ℕ) : Type 0 where
@@ -49,7 +50,7 @@ abbrev pub IsAsked : Request → Type 0
 IsAsked (Hello store moment address labels) = IsSpoken store moment × (is_plain 64 address ≡ true) × AreLabels labels
 IsAsked (Alive store moment) = IsSpoken store moment
 IsAsked (Beat store moment beat) = IsSpoken store moment × IsReport beat
-IsAsked (Rule moment json) = (moment < 2 ^ 46) × (length json ≤ 4096)
+IsAsked (Rule moment json) = (moment < 2 ^ 46) × (length json ≤ MAX_JSON)
 IsAsked (Unrule moment group id) = (moment < 2 ^ 46) × (is_name group ≡ true) × (is_name id ≡ true)
 IsAsked (Check moment region) = (moment < 2 ^ 46) × IsId region
 IsAsked (Patrol moment workers) = (moment < 2 ^ 46) × (0 < workers) × (workers ≤ 16)

@@ -7,6 +7,7 @@ use Rattle.atomic_table.specs.Seated.{TableId}
 use Rattle.pd_turn.specs.Turns.{AreApart}
 use Rattle.pd_types.specs.declared.step.StepMsg.{StepMsg}
 use Rattle.pd_state.specs.declared.entry.Entry.{Entry}
+use Rattle.step_stream.specs.declared.stream.TheConstants.{PLACES}
 use Rattle.pd_shared.specs.Names.{StreamName, stream_name, streams_of}
 
 -- an outlet: its store, the stream to that store, and the steps that were pushed into it, in their order
@@ -41,8 +42,8 @@ sends_to store entries = to_store store (flat_map (λ (entry : Entry). entry.sen
 abbrev pub ArePushed : ℕ → List StepMsg → List StepMsg → Type 0
 ArePushed before [] [] = Unit {0}
 ArePushed before [] (p ∷ pushed) = ⊥
-ArePushed before (s ∷ sends) [] = (64 ≤ before) × ArePushed before sends []
-ArePushed before (s ∷ sends) (p ∷ pushed) = ((s ≡ p) × ArePushed (before + 1) sends pushed) ⊎ ((64 ≤ before) × ArePushed before sends (p ∷ pushed))
+ArePushed before (s ∷ sends) [] = (PLACES ≤ before) × ArePushed before sends []
+ArePushed before (s ∷ sends) (p ∷ pushed) = ((s ≡ p) × ArePushed (before + 1) sends pushed) ⊎ ((PLACES ≤ before) × ArePushed before sends (p ∷ pushed))
 
 -- what was pushed into an outlet is what the entries sent to its store, but for what was left out
 abbrev pub IsServed : List Entry → OutletValue → Type 0

@@ -17,7 +17,7 @@ fn number(word: Option<&str>) -> u64 {
     word.unwrap_or("").parse().unwrap_or(0)
 }
 
-// A text of a word.
+/// A text of a word.
 pub fn text(alloc: Global, word: &str) -> Result<Text, NoMemory> {
     Ok(Text::of(String::from_str(alloc, word)?))
 }
@@ -210,6 +210,7 @@ pub struct Scene {
 }
 
 impl Scene {
+    /// With an empty bench.
     pub fn new(alloc: Global) -> Scene {
         Scene::of(alloc, Bench::empty(alloc))
     }

@@ -10,11 +10,12 @@ use Rattle.pd_types.specs.declared.rule.Op.TheVariants.{In}
 use Rattle.pd_types.specs.declared.rule.Constraint.{Constraint}
 use Rattle.pd_types.specs.declared.rule.Rule.{Rule}
 use Rattle.rule_text.specs.Fields.{items_at, text_of, text_at, number_at, truth_at}
+use Rattle.rule_text.specs.declared.read.TheConstants.{MOST_KEY_BYTES}
 use Rattle.rule_text.specs.Words.{role_of, role_word, op_of, op_word}
 
 -- at most 256 bytes, where the text was hexadecimal
 abbrev pub within : Result (List ℕ) FromHexError → Option (List ℕ)
-within (Ok bytes) = if nat_le (length bytes) 256 then Some bytes else None
+within (Ok bytes) = if nat_le (length bytes) MOST_KEY_BYTES then Some bytes else None
 within (Err e) = None
 
 -- the bytes of a key, where its text is hexadecimal and they are 256 at most
