@@ -253,8 +253,8 @@ fn put_journal_entries(text: &mut String, entries: &[Entry]) -> Result<(), Alloc
     Ok(())
 }
 
-// The journal of a driver's cluster behind its head.
-fn put_journal(text: &mut String, driver: u64, cluster: &Cluster) -> Result<(), AllocError>
+/// The journal of a driver's cluster behind its head.
+pub fn put_journal(text: &mut String, driver: u64, cluster: &Cluster) -> Result<(), AllocError>
     ensures text { OnOk result (string_bytes text.new ≡ string_bytes text.old ++ journal_section driver (journal_of cluster.now)) }
 {
     writeln!(text, "journal {driver}")?;
@@ -321,8 +321,8 @@ fn put_meta_entry(text: &mut String, n: u64, entry: &MetaEntry) -> Result<(), Al
     text.push_str("\n")
 }
 
-// The journal of the metadata behind its head.
-fn put_meta(text: &mut String, entries: &[MetaEntry]) -> Result<(), AllocError>
+/// The journal of the metadata behind its head.
+pub fn put_meta(text: &mut String, entries: &[MetaEntry]) -> Result<(), AllocError>
     ensures text { OnOk result (string_bytes text.new ≡ string_bytes text.old ++ meta_section entries.now) }
 {
     text.push_str("meta\n")?;
