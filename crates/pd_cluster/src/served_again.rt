@@ -122,8 +122,10 @@ impl<'a> Again<'a> {
                 self.serve_next(driver)?;
             }
         }
-        let made = self.meta.journal().get(place);
-        Ok(made.is_some_and(|made| u64::from(made.driver) == driver))
+        match self.meta.journal().get(place) {
+            Some(made) => Ok(u64::from(made.driver) == driver),
+            None => Err(Fail::new("a call that no entry makes")),
+        }
     }
 
     /// Serves all entries. Tells whether that can be: no call of another driver stands between the calls of one entry.
