@@ -110,8 +110,12 @@ impl<'a> Again<'a> {
         };
         let line = number(entry, 2);
         let request = request_on(self.alloc, &self.script, self.text, line)?;
-        let actor = Actor::Driver(driver as u8);
-        side.cluster.serve(actor, line as u32, request, &mut self.meta, &mut side.bench)?;
+        let (Ok(driver), Ok(line)) = (u8::try_from(driver), u32::try_from(line)) else {
+            return Err(Fail::new("no entry"));
+        };
+        let actor = Actor::Driver(driver);
+        side.cluster
+            .serve(actor, line, request, &mut self.meta, &mut side.bench)?;
         Ok(())
     }
 
