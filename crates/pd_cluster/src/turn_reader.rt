@@ -20,14 +20,10 @@ impl<'a> Journals<'a> {
 
     // The scheduler that had the last turn before an entry, empty where none had.
     fn last_turn(&self, at: &Served) -> &'a str {
-        let mut last = "";
-        for one in &self.served {
-            let earlier = one.driver == at.driver && one.place < at.place;
-            if earlier && one.head == "scheduler" {
-                last = word(one.told, 1);
-            }
-        }
-        last
+        let turns = self.served.iter().filter(|one| {
+            one.driver == at.driver && one.place < at.place && one.head == "scheduler"
+        });
+        turns.last().map_or("", |one| word(one.told, 1))
     }
 
     // The turn goes round the schedulers that are left, and none is left where there is no answer of one.
