@@ -4,15 +4,11 @@
 mod adding;
 mod burial;
 mod check_laws;
-#[cfg(test)]
-mod check_tests;
 mod checking;
 mod cluster;
 mod ctl;
 mod ctl_changes;
 mod ctl_reports;
-#[cfg(test)]
-mod ctl_tests;
 mod entry;
 mod handed;
 mod heard;
@@ -25,13 +21,9 @@ mod reply;
 mod rule_laws;
 mod rules;
 mod scheduling;
-#[cfg(test)]
-mod scripts;
 mod sent;
 mod serve;
 mod stores;
-#[cfg(test)]
-mod tests;
 mod turn_laws;
 mod wishing;
 mod write;

@@ -1,7 +1,7 @@
 // Clusters in scripts: a line is a request or a word about the scene, and behind ` => ` stands what it
 // is answered.
-use crate::{Cluster, Reply};
 use meta_store::{MOST_ENTRIES, Meta, MetaCall, MetaEntry, MetaFault};
+use pd_state::{Cluster, Reply};
 use pd_types::{
     Actor, Bytes, Downs, Epoch, Ids, Label, Labels, NoMemory, Peer, Peers, Region, RegionBeat,
     Request, Role, StepMsg, Text,

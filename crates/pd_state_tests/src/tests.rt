@@ -1,6 +1,6 @@
 // The requests of stores and about rules, terms, and what the metadata keeps of them.
 use crate::scripts::{Scene, request};
-use crate::{Cluster, Reply};
+use pd_state::{Cluster, Reply};
 use pd_types::{Actor, BeatFault, NoMemory, Request};
 use std::alloc::Global;
 use std::ops::Range;
