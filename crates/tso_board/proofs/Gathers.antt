@@ -1,6 +1,6 @@
 -- The lists of a view into which all drivers' and clients' views were joined are theirs together, and it has all their numbers.
 use Rattle.std.proofs.Common.{◌≡◌, ℕ, ◌+◌, ◌≤◌, eqb, cond, List, [], ◌∷◌, ◌++◌, sym, refl, ap, ◌∙◌, subst, ⊎_elim, arith, max}
-use Rattle.std.specs.Prelude.{Contains, map, option_to_list}
+use Rattle.std.specs.Prelude.{Contains, map, option_to_list, reverse}
 use Rattle.std.specs.List.Sorted.{IsNonDecreasingBy}
 use Rattle.std.proofs.lemmas.List.Elements.{Contains-append_left}
 use Rattle.pd_types.specs.declared.oracle.Batch.{Batch}
@@ -15,7 +15,7 @@ use Rattle.tso_model.specs.Lists.{total, times}
 use Rattle.tso_model.specs.History.{claims}
 use Rattle.tso_model.specs.Words.{opening_claim}
 use Rattle.tso_model.specs.Moves.{joined, joined_cell, upper}
-use Rattle.tso_model.specs.Ledger.{Gathered, HasAll, back, drawn_by}
+use Rattle.tso_model.specs.Ledger.{Gathered, HasAll, drawn_by}
 use Rattle.tso_model.proofs.Basics.{by_eq, in_head, in_tail, in_cons, in_nil}
 use Rattle.tso_model.proofs.Sums.{total-append}
 use Rattle.tso_model.proofs.Codes.{claim_code, claim_one, batch_code, batch_one}
@@ -157,7 +157,7 @@ module _ (k : Setup) (ds cs : List View) (driver : (w : View) → Contains ds w 
       let u = unites cell seen ds cs driver client in
       let claims_weigh : (f : Claim → ℕ) → total f xs ≡ total f (claims whole) + f (opening_claim k.cell) = λ f. omega (arith, weigh f, claims_total f ds, u.claims f) in
       let batches_weigh : (f : Batch → ℕ) → total f bs ≡ total (λ (g : Grant). f g.batch) whole.grants = λ f. omega (arith, weigh' f, batches_total f cs, u.grants (λ (g : Grant). f g.batch)) in
-      let rise = rises_by (λ (c : Claim). c.window.term) claim_code claim_one (back (g.history.newest ∷ g.history.past)) (windows_rise (opening_claim k.cell) _ g.a.windows) xs sorted (λ f. omega (arith, claims_weigh f, g.a.claims f)) in
+      let rise = rises_by (λ (c : Claim). c.window.term) claim_code claim_one (reverse (g.history.newest ∷ g.history.past)) (windows_rise (opening_claim k.cell) _ g.a.windows) xs sorted (λ f. omega (arith, claims_weigh f, g.a.claims f)) in
       let climb = rises_by (λ (b : Batch). b.last) batch_code batch_one (drawn_by g.history.drawn (g.history.newest ∷ g.history.past)) (batches_rise _ _ g.b.draws) bs rising (λ f. omega (arith, batches_weigh f, g.b.batches f)) in
       let lists = gathered_lists k whole xs bs g rise claims_weigh climb batches_weigh in
       record { view = whole; gathered = g; unites = u; claims = xs; windows_are = are; claims_weigh = claims_weigh; batches_weigh = batches_weigh; window_list = lists.0; draw_list = lists.1 }

@@ -1,11 +1,12 @@
 -- What every sound state says of its windows, batches and cursors, and of a batch that a client gets.
 use Rattle.std.proofs.Common.{◌≡◌, ℕ, ◌<◌, Bool, true, false, cond, List, ◌∷◌, refl, sym, ap, subst, ◌∙◌, arith}
+use Rattle.std.specs.Prelude.{reverse}
 use Rattle.pd_types.specs.declared.oracle.Batch.{Batch}
 use Rattle.tso_model.specs.Words.{opening_claim, passes}
 use Rattle.tso_model.specs.Moves.{spent_view}
 use Rattle.tso_model.specs.Steps.{hand, batch_of}
 use Rattle.tso_model.specs.Sound.{IsUnseen}
-use Rattle.tso_model.specs.Ledger.{IsDrawList, back, place}
+use Rattle.tso_model.specs.Ledger.{IsDrawList, place}
 use Rattle.tso_model.specs.declared.step.WordStep.TheVariants.{AddArmed}
 use Rattle.tso_model.proofs.Ledgers.{window_list, draw_list}
 use Rattle.tso_model.proofs.Learned.{unseen}
@@ -33,10 +34,10 @@ module _ (w : Whole) (s : IsSound w) where
   pub ledger : AreLedger w
   ledger =
       let r = s.recorded in record {
-        claims = back (r.history.newest ∷ r.history.past);
+        claims = reverse (r.history.newest ∷ r.history.past);
         windows = r.windows_are;
         rise = window_list (opening_claim w.setup.cell) r.history.newest r.history.past r.a.chain;
-        draws = subst (λ (bs : List Batch). IsDrawList (back (r.history.newest ∷ r.history.past)) bs) (sym r.batches_are) (draw_list w.setup w.words w.views r.history r.a r.b);
+        draws = subst (λ (bs : List Batch). IsDrawList (reverse (r.history.newest ∷ r.history.past)) bs) (sym r.batches_are) (draw_list w.setup w.words w.views r.history r.a r.b);
       }
 
   pub bounded : AreBounded w

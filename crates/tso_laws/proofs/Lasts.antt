@@ -1,12 +1,11 @@
 -- The last window of a sound state.
 use Rattle.std.proofs.Common.{◌≡◌, ℕ, true, List, [], ◌∷◌, ◌++◌, map, sym, ap, ◌∙◌, arith}
-use Rattle.std.specs.Prelude.{slice_index}
-use Rattle.std.proofs.lemmas.List.{map_push}
+use Rattle.std.specs.Prelude.{slice_index, reverse}
+use Rattle.std.proofs.lemmas.List.{map_push, reverse-append}
 use Rattle.pd_types.specs.declared.oracle.Window.{Window}
 use Rattle.tso_model.specs.declared.entries.Claim.{Claim}
 use Rattle.tso_model.specs.Words.{packed}
 use Rattle.tso_model.specs.Moves.{spent_view}
-use Rattle.tso_model.specs.Ledger.{back}
 use Rattle.tso_model.specs.Steps.{held, held_or}
 use Rattle.tso_model.specs.Sound.{FitsA}
 use Rattle.tso_model.proofs.CellA.{newest_is}
@@ -16,10 +15,12 @@ use Rattle.tso_core.proofs.Places.{at_get}
 
 -- the windows before the last one
 abbrev pub older_of : (w : Whole) → IsSound w → List Window
-older_of w s = map (λ (c : Claim). c.window) (back s.recorded.history.past)
+older_of w s = map (λ (c : Claim). c.window) (reverse s.recorded.history.past)
 
 pub all_are : (w : Whole) (s : IsSound w) → w.windows ≡ older_of w s ++ s.recorded.history.newest.window ∷ []
-all_are w s = s.recorded.windows_are ∙ map_push (λ (c : Claim). c.window) (back s.recorded.history.past) s.recorded.history.newest
+all_are w s = s.recorded.windows_are
+    ∙ ap (map (λ (c : Claim). c.window)) (reverse-append (s.recorded.history.newest ∷ []) s.recorded.history.past)
+    ∙ map_push (λ (c : Claim). c.window) (reverse s.recorded.history.past) s.recorded.history.newest
 
 module _ (w : Whole) (s : IsSound w) (d : ℕ) (has : HasDriver w.setup d) where
   pub its : IsDriver d (view_at w d)

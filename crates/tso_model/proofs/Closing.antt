@@ -1,6 +1,9 @@
 -- What a closed table tells of the view that has all numbers.
-use Rattle.std.proofs.Common.{◌≡◌, ◌≢◌, ℕ, ◌+◌, ◌-◌, ◌<◌, ◌≤◌, ◌⊎◌, eqb, cond, false, List, [], ◌∷◌, sym, refl, ap, ◌∙◌, inl, inr, ⊎_elim, arith}
-use Rattle.std.specs.Prelude.{Contains}
+use Rattle.std.proofs.Common.{◌≡◌, ◌≢◌, ℕ, ◌+◌, ◌<◌, ◌≤◌, ◌⊎◌, eqb, cond, false, List, [], ◌∷◌, sym, refl, ap, ◌∙◌, inl, inr, ⊎_elim, arith}
+use Rattle.std.specs.Prelude.{Contains, reverse, nat_lt, nat_le}
+use Rattle.std.proofs.lemmas.Bool.{lt-leb}
+use Rattle.pd_types.proofs.Bools.{and_right}
+use Rattle.std.proofs.lemmas.List.{reverse-append}
 use mathlib.Core.Logic.{dite}
 use mathlib.Core.Option.{some}
 use native.Mathlib.Decide.{ℕ_discrete, dec_le}
@@ -27,7 +30,7 @@ use Rattle.tso_model.proofs.Basics.{by_eq, by_bool, in_head, in_tail, in_cons, i
 use Rattle.tso_model.proofs.Sums.{total-only}
 use Rattle.tso_model.proofs.Growth.{in_range_one}
 use Rattle.tso_model.proofs.Moves.{own_zero, same_c}
-use Rattle.tso_model.specs.Ledger.{back, drawn_by, HasAll, Gathered, GathersEach}
+use Rattle.tso_model.specs.Ledger.{drawn_by, HasAll, Gathered, GathersEach}
 use Rattle.tso_model.proofs.Ledgers.{window_list, draw_list}
 
 empty_by : {A : Type 0} (by : A → ℕ) (xs : List A) → ((d : ℕ) → (let n : ℕ = total (λ e. cond (eqb (by e) d) 1 0) xs in n) ≡ 0) → xs ≡ []
@@ -45,7 +48,7 @@ alone k words views h id v field by numbers s at none own apart f = total-only (
     bare j u ne there = by_bool (λ b. u.spent ≡ b → field u ≡ []) u.spent (λ _ e. ap field (s.gone j u there e) ∙ none) (λ _ e. empty_by by (field u) (λ d. own u (s.each j u there e) d (λ pos. apart j u ne there d pos))) refl
 
 above_range : (n d : ℕ) → n < d → in_range n d ≡ 0
-above_range n d lt = by_eq (λ t. (let m : ℕ = cond t 0 (cond (eqb (d - n) 0) 1 0) in m) ≡ 0) d 0 (λ _. refl) (λ _. by_eq (λ t. (let m : ℕ = cond t 1 0 in m) ≡ 0) (d - n) 0 (λ e. absurd (omega (arith, e, lt))) (λ _. refl))
+above_range n d lt = ap (λ b. cond b 1 0) (and_right (nat_lt 0 d) (nat_le d n) (lt-leb d n lt))
 
 driver_none : (k : Setup) (words : List ℕ) (views : List View) (h : History) (id : ℕ) (v : View) → PartA k words views h → get_elem? views id ≡ some v → HasAll k v
     → (j : ℕ) (u : View) → j ≢ id → get_elem? views j ≡ some u → (x : ℕ) → 0 < x → times x (u.driver ∷ u.took_drivers) ≡ 0
@@ -66,9 +69,9 @@ client_none k words views h id v s at all j u ne there x pos =
     (λ gt. omega (arith, mine, s.clients_once x pos, above_range k.clients x (omega (arith, gt)), total-append g u.give_clients u.took_clients))
 
 -- SUMS BY TERM
-back_total : {A : Type 0} (f : A → ℕ) (xs : List A) → total f (back xs) ≡ total f xs
-back_total f [] = refl
-back_total f (x ∷ xs) = omega (arith, total-append f (back xs) (x ∷ []), back_total f xs)
+pub reverse_total : {A : Type 0} (f : A → ℕ) (xs : List A) → total f (reverse xs) ≡ total f xs
+reverse_total f [] = refl
+reverse_total f (x ∷ xs) = omega (arith, ap (total f) (reverse-append (x ∷ []) xs), total-append f (reverse xs) (x ∷ []), reverse_total f xs)
 
 map_total : (f : Batch → ℕ) (gs : List Grant) → total f (map (λ (g : Grant). g.batch) gs) ≡ total (λ (g : Grant). f g.batch) gs
 map_total f [] = refl
@@ -76,7 +79,7 @@ map_total f (g ∷ gs) = omega (arith, map_total f gs)
 
 drawn_total : (d : ℕ → List Grant) (f : Batch → ℕ) (cs : List Claim) → total f (drawn_by d cs) ≡ total (λ (c : Claim). total (λ (g : Grant). f g.batch) (d c.window.term)) cs
 drawn_total d f [] = refl
-drawn_total d f (c ∷ cs) = omega (arith, total-append f (drawn_by d cs) (back (map (λ (g : Grant). g.batch) (d c.window.term))), drawn_total d f cs, back_total f (map (λ (g : Grant). g.batch) (d c.window.term)), map_total f (d c.window.term))
+drawn_total d f (c ∷ cs) = omega (arith, total-append f (drawn_by d cs) (reverse (map (λ (g : Grant). g.batch) (d c.window.term))), drawn_total d f cs, reverse_total f (map (λ (g : Grant). g.batch) (d c.window.term)), map_total f (d c.window.term))
 
 total-plus : {A : Type 0} (f g : A → ℕ) (xs : List A) → total (λ x. f x + g x) xs ≡ total f xs + total g xs
 total-plus f g [] = refl
@@ -122,7 +125,7 @@ pub gathers_parts : (k : Setup) (words : List ℕ) (views : List View) (h : Hist
 gathers_parts k words views h id v at all = record {
   a = λ s. record {
     windows = window_list (opening_claim k.cell) h.newest h.past s.chain;
-    claims = λ f. omega (arith, s.matches.claims f, ours s claims (λ (c : Claim). c.window.driver) (λ u. u.driver ∷ u.took_drivers) refl (λ u m. m.claims_own) (drivers s) f, back_total f (h.newest ∷ h.past));
+    claims = λ f. omega (arith, s.matches.claims f, ours s claims (λ (c : Claim). c.window.driver) (λ u. u.driver ∷ u.took_drivers) refl (λ u m. m.claims_own) (drivers s) f, reverse_total f (h.newest ∷ h.past));
     starts = λ f. sym (ours s (λ u. u.starts) (λ (x : Start). x.driver) (λ u. u.driver ∷ u.took_drivers) refl (λ u m. m.starts_own) (drivers s) f) ∙ s.matches.starts f;
     founds = λ f. sym (ours s (λ u. u.founds) (λ (x : Found). x.driver) (λ u. u.driver ∷ u.took_drivers) refl (λ u m. m.founds_own) (drivers s) f) ∙ s.matches.founds f;
     published = λ f. sym (ours s (λ u. u.published) (λ (x : Published). x.driver) (λ u. u.driver ∷ u.took_drivers) refl (λ u m. m.published_own) (drivers s) f) ∙ s.matches.published f;

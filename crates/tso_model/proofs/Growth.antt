@@ -1,6 +1,8 @@
 -- What stays as the history grows: named windows, seen pairs, limits in hand, and what part A says of the other views.
-use Rattle.std.proofs.Common.{◌≡◌, ◌≢◌, ℕ, ◌+◌, ◌-◌, ◌/◌, ◌%◌, ◌^◌, ◌<◌, ◌≤◌, eqb, cond, false, List, [], ◌∷◌, ◌++◌, length, set, sym, refl, ap, ◌∙◌, subst, inl, inr, ⊎_elim, arith}
-use Rattle.std.specs.Prelude.{Some, All, Contains, slice_index}
+use Rattle.std.proofs.Common.{◌≡◌, ◌≢◌, ℕ, ◌+◌, ◌/◌, ◌%◌, ◌^◌, ◌<◌, ◌≤◌, cond, false, List, [], ◌∷◌, ◌++◌, length, set, sym, refl, ap, ◌∙◌, subst, inl, inr, ⊎_elim, arith}
+use Rattle.std.specs.Prelude.{Some, All, Contains, slice_index, ◌&&◌, nat_lt, nat_le}
+use Rattle.std.proofs.lemmas.Bool.{leb-true}
+use Rattle.pd_types.proofs.Bools.{and_true}
 use mathlib.Core.Option.{some}
 use lib.ListN.{get_elem?}
 use Rattle.tso_model.proofs.ListAt.{at_set}
@@ -121,10 +123,10 @@ fitsB_later k words more views h g v s l grow f = record {
 
 -- WHAT PART A SAYS OF THE OTHER VIEWS
 pub in_range_one : (n d : ℕ) → in_range n d ≤ 1
-in_range_one n d = by_eq (λ t. cond t 0 (cond (eqb (d - n) 0) 1 0) ≤ 1) d 0 (λ _. omega arith) (λ _. by_eq (λ t. cond t 1 0 ≤ 1) (d - n) 0 (λ _. omega arith) (λ _. omega arith))
+in_range_one n d = by_bool (λ b. cond b 1 0 ≤ 1) (nat_lt 0 d && nat_le d n) (λ _. omega arith) (λ _. omega arith)
 
 pub in_range_le : (n d : ℕ) → 1 ≤ in_range n d → d ≤ n
-in_range_le n d = by_eq (λ t. 1 ≤ cond t 0 (cond (eqb (d - n) 0) 1 0) → d ≤ n) d 0 (λ e h. absurd (omega (arith, h))) (λ ne. by_eq (λ t. 1 ≤ cond t 1 0 → d ≤ n) (d - n) 0 (λ e h. omega (arith, e)) (λ m h. absurd (omega (arith, h))))
+in_range_le n d = by_bool (λ b. 1 ≤ cond b 1 0 → d ≤ n) (nat_lt 0 d && nat_le d n) (λ e _. leb-true d n (and_true (nat_lt 0 d) (nat_le d n) e).1) (λ _ h. absurd (omega (arith, h)))
 
 pub own_counts : (d e : ℕ) (rest : List ℕ) → e ≡ d → 1 ≤ times d (e ∷ rest)
 own_counts d e rest same = by_eq (λ t. 1 ≤ cond t 1 0 + times d rest) e d (λ _. omega arith) (λ ne. absurd (ne same))

@@ -1,9 +1,11 @@
 -- Making, splitting and joining keep the rule.
 use Rattle.std.proofs.Common.{◌≡◌, ◌≢◌, ℕ, zero, suc, ◌+◌, ◌-◌, ◌*◌, ◌/◌, ◌%◌, ◌<◌, ◌≤◌, eqb, cond, Bool, true, false, List, [], ◌∷◌, ◌++◌, get_or, set, sym, refl, ap, ◌∙◌, subst, inl, ⊎_elim, arith, eq-eqb, ne_eqb}
-use Rattle.std.specs.Prelude.{Contains}
+use Rattle.std.specs.Prelude.{Contains, nat_lt, nat_le}
+use Rattle.std.proofs.lemmas.Bool.{le-leb, lt-leb}
+use Rattle.pd_types.proofs.Bools.{and_both, and_right}
 use mathlib.Core.Logic.{dite}
 use mathlib.Core.Option.{some, some-ne-none, some-injective}
-use native.Mathlib.Decide.{ℕ_discrete}
+use native.Mathlib.Decide.{ℕ_discrete, dec_le}
 use lib.ListN.{get_elem?}
 use Rattle.tso_model.proofs.ListAt.{at_set}
 use Rattle.pd_types.specs.declared.oracle.Window.{Window}
@@ -58,11 +60,9 @@ run d a (suc n) =
 begun : (n d : ℕ) → 0 < d → times d (numbers_from 1 n) ≡ in_range n d
 begun n d pos =
     let t = run d 1 n in
-    dite (ℕ_discrete d 0)
-    (λ e. absurd (omega (arith, pos, e)))
-    (λ ne. dite (ℕ_discrete (d - n) 0)
-    (λ e. subst (λ b. times d (numbers_from 1 n) ≡ cond b 0 (bit (eqb (d - n) 0))) (sym (ne_eqb d 0 ne)) (subst (λ b. times d (numbers_from 1 n) ≡ bit b) (sym (eq-eqb (d - n) 0 e)) (t.1 (omega (arith, pos)) (omega (arith, e)))))
-    (λ m. subst (λ b. times d (numbers_from 1 n) ≡ cond b 0 (bit (eqb (d - n) 0))) (sym (ne_eqb d 0 ne)) (subst (λ b. times d (numbers_from 1 n) ≡ bit b) (sym (ne_eqb (d - n) 0 m)) (t.2 (omega (arith, m))))))
+    dite (dec_le d n)
+    (λ le. t.1 (omega (arith, pos)) (omega (arith, le)) ∙ sym (ap (λ b. cond b 1 0) (and_both (nat_lt 0 d) (nat_le d n) (le-leb 1 d (omega (arith, pos))) (le-leb d n le))))
+    (λ gt. t.2 (omega (arith, gt)) ∙ sym (ap (λ b. cond b 1 0) (and_right (nat_lt 0 d) (nat_le d n) (lt-leb d n (omega (arith, gt))))))
 
 zeros : (n m : ℕ) → (let x : ℕ = get_or (replicate n 0) m 0 in x) ≡ 0
 zeros zero m = refl

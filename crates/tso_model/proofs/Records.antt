@@ -1,6 +1,7 @@
 -- Each kind of step, with what it makes of the parts of the rule and of the two lists of the run.
 use Rattle.std.proofs.Common.{◌≡◌, ◌≢◌, ℕ, ◌+◌, ◌/◌, ◌%◌, ◌^◌, ◌<◌, ◌⊎◌, eqb, cond, true, false, List, [], ◌∷◌, ◌++◌, sym, refl, ap, ◌∙◌, subst, inl, inr, arith, max}
-use Rattle.std.specs.Prelude.{Option, Some, slice_index, slice_set}
+use Rattle.std.specs.Prelude.{Option, Some, slice_index, slice_set, reverse}
+use Rattle.std.proofs.lemmas.List.{map_push, reverse-append}
 use mathlib.Core.Option.{some}
 use lib.ListN.{get_elem?}
 use Rattle.pd_types.specs.declared.oracle.Window.{Window}
@@ -26,12 +27,11 @@ use Rattle.tso_model.proofs.DrawB.{in_hand, no_wrap, with_added, with_refusal, t
 use Rattle.tso_model.proofs.OtherA.{with_look, told, looked_a, refused_a, armed_a, drew_a, granted_a, raised_a, published_a, publish_names}
 use Rattle.tso_model.proofs.OtherB.{looked_b, refused_b, armed_b, published_b}
 use Rattle.tso_model.proofs.StepsC.{loads_c, won_c, kept_c, raised_c, published_c, looked_c, refused_c, armed_c, drew_c, granted_c}
-use Rattle.tso_model.specs.Ledger.{back, drawn_by, place, longer_last, windows_after, batches_after, KeepsLists}
+use Rattle.tso_model.specs.Ledger.{drawn_by, place, longer_last, windows_after, batches_after, KeepsLists}
 use Rattle.tso_model.proofs.Ledgers.{drawn_another, drawn_placed}
 
-map-push : (xs : List Claim) (c : Claim) → map (λ (x : Claim). x.window) (xs ++ c ∷ []) ≡ map (λ (x : Claim). x.window) xs ++ c.window ∷ []
-map-push [] c = refl
-map-push (x ∷ xs) c = ap (λ (l : List Window). x.window ∷ l) (map-push xs c)
+pushed : (c : Claim) (past : List Claim) → map (λ (x : Claim). x.window) (reverse (c ∷ past)) ≡ map (λ (x : Claim). x.window) (reverse past) ++ c.window ∷ []
+pushed c past = ap (map (λ (x : Claim). x.window)) (reverse-append (c ∷ []) past) ∙ map_push (λ (x : Claim). x.window) (reverse past) c
 
 pub longer_push : (hi : ℕ) (xs : List Window) (w : Window) → longer_last hi (xs ++ w ∷ []) ≡ xs ++ saved_window hi w ∷ []
 longer_push hi [] w = refl
@@ -42,7 +42,7 @@ longer_push hi (x ∷ y ∷ ys) w = ap (λ (l : List Window). x ∷ l) (longer_p
 record Makes (k : Setup) (words : List ℕ) (views : List View) (ws : List Window) (bs : List Batch) (h : History) (more : List ℕ) (others : List View) (wider : List Window) (further : List Batch) : Type 0 where
   pub history : History
   pub parts : KeepsEach k words views h more others history
-  pub windows : PartA k words views h → ws ≡ map (λ (c : Claim). c.window) (back (h.newest ∷ h.past)) → wider ≡ map (λ (c : Claim). c.window) (back (history.newest ∷ history.past))
+  pub windows : PartA k words views h → ws ≡ map (λ (c : Claim). c.window) (reverse (h.newest ∷ h.past)) → wider ≡ map (λ (c : Claim). c.window) (reverse (history.newest ∷ history.past))
   pub batches : PartA k words views h → PartB k words views h → bs ≡ drawn_by h.drawn (h.newest ∷ h.past) → further ≡ drawn_by history.drawn (history.newest ∷ history.past)
 
 module _ (k : Setup) (words : List ℕ) (views : List View) (ws : List Window) (bs : List Batch) (h : History) (id : ℕ) (v : View) (at : get_elem? views id ≡ some v) where
@@ -69,7 +69,7 @@ module _ (k : Setup) (words : List ℕ) (views : List View) (ws : List Window) (
       b = λ a b. won_b k words views h id v a b at may hit;
       c = λ a _ c. let same = next_term a may hit in won_c k words views (slice_set views id (claimed v)) h (packed v.cell.saved (v.cell.term + 1)) (new_claim v) c (omega (arith, same.1)) (omega (arith, same.0));
     };
-    windows = λ _ same. ap (λ (l : List Window). l ++ (new_claim v).window ∷ []) same ∙ sym (map-push (back (h.newest ∷ h.past)) (new_claim v));
+    windows = λ _ same. ap (λ (l : List Window). l ++ (new_claim v).window ∷ []) same ∙ sym (pushed (new_claim v) (h.newest ∷ h.past));
     batches = λ a b same. let next = next_term a may hit in same ∙ sym (drawn_another h.drawn (new_claim v) (h.newest ∷ h.past) (none_above k words views h a b (v.cell.term + 1) (omega (arith, next.1))));
   }
 
@@ -83,7 +83,7 @@ module _ (k : Setup) (words : List ℕ) (views : List View) (ws : List Window) (
       c = λ a _ s. let is_newest = newest_is k words views h id v c a at pos is hit in
           kept_c k words views (slice_set views id (saves hi v (Some c))) h (packed hi c.window.term) hi s (omega (arith, above, ap (λ (y : Claim). y.window.hi) is_newest));
     };
-    windows = λ _ same. ap (longer_last hi) (same ∙ map-push (back h.past) h.newest) ∙ longer_push hi (map (λ (x : Claim). x.window) (back h.past)) h.newest.window ∙ sym (map-push (back h.past) (saved_claim hi h.newest));
+    windows = λ _ same. ap (longer_last hi) (same ∙ pushed h.newest h.past) ∙ longer_push hi (map (λ (x : Claim). x.window) (reverse h.past)) h.newest.window ∙ sym (pushed (saved_claim hi h.newest) h.past);
     batches = λ _ _ same. same;
   }
 

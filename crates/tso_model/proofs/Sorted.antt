@@ -1,6 +1,6 @@
 -- Two lists that rise by the same key and weigh alike are one.
 use Rattle.std.proofs.Common.{◌≡◌, ℕ, ◌+◌, ◌<◌, ◌≤◌, eqb, cond, List, [], ◌∷◌, sym, refl, ap, ◌∙◌, subst, ⊎_elim, arith, eq-eqb}
-use Rattle.std.specs.Prelude.{All, Contains}
+use Rattle.std.specs.Prelude.{All, Contains, reverse}
 use mathlib.Core.Logic.{dite}
 use native.Mathlib.Decide.{dec_le}
 use Rattle.tso_model.specs.declared.entries.Claim.{Claim}
@@ -13,7 +13,7 @@ use Rattle.std.proofs.lemmas.List.Elements.{All-nil, All-cons, All-contains, All
 use Rattle.pd_types.specs.declared.oracle.Batch.{Batch}
 use Rattle.tso_model.specs.Words.{opening_claim, Inside}
 use Rattle.tso_model.proofs.Basics.{by_eq, in_head, in_tail, in_cons, in_nil, hits, hits-same}
-use Rattle.tso_model.specs.Ledger.{IsRisingBy, back, Rise, IsWindowList, Climb, IsDrawList, drawn_by, Gathered}
+use Rattle.tso_model.specs.Ledger.{IsRisingBy, Rise, IsWindowList, Climb, IsDrawList, drawn_by, Gathered}
 use Rattle.tso_model.proofs.Basics.{hits-is}
 use Rattle.std.proofs.lemmas.List.Elements.{All-head, All-tail}
 
@@ -97,6 +97,6 @@ batches_rise ws bs l = climb_sorted 0 0 bs l.high l.term (All-weaker (λ (b : Ba
 pub gathered_lists : (k : Setup) (v : View) (ws : List Claim) (bs : List Batch) → Gathered k v → IsRisingBy (λ (c : Claim). c.window.term) ws → ((f : Claim → ℕ) → total f ws ≡ total f (claims v) + f (opening_claim k.cell))
     → IsRisingBy (λ (b : Batch). b.last) bs → ((f : Batch → ℕ) → total f bs ≡ total (λ (g : Grant). f g.batch) v.grants) → IsWindowList (opening_claim k.cell) ws × IsDrawList ws bs
 gathered_lists k v ws bs g rise same climb weigh =
-    let is : back (g.history.newest ∷ g.history.past) ≡ ws = sorted_claims _ ws (windows_rise (opening_claim k.cell) _ g.a.windows) rise (λ f. sym (g.a.claims f) ∙ sym (same f)) in
+    let is : reverse (g.history.newest ∷ g.history.past) ≡ ws = sorted_claims _ ws (windows_rise (opening_claim k.cell) _ g.a.windows) rise (λ f. sym (g.a.claims f) ∙ sym (same f)) in
     let are : drawn_by g.history.drawn (g.history.newest ∷ g.history.past) ≡ bs = sorted_batches _ bs (batches_rise _ _ g.b.draws) climb (λ f. sym (g.b.batches f) ∙ sym (weigh f)) in
-    (subst (IsWindowList (opening_claim k.cell)) is g.a.windows, subst (λ (l : List Claim). IsDrawList l bs) is (subst (IsDrawList (back (g.history.newest ∷ g.history.past))) are g.b.draws))
+    (subst (IsWindowList (opening_claim k.cell)) is g.a.windows, subst (λ (l : List Claim). IsDrawList l bs) is (subst (IsDrawList (reverse (g.history.newest ∷ g.history.past))) are g.b.draws))

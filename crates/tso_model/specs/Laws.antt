@@ -1,5 +1,5 @@
 -- The statements of the law functions, each with a name of its own.
-use Rattle.std.specs.Prelude.{◌≡◌, ◌≢◌, ◌⊎◌, ℕ, ◌+◌, ◌*◌, ◌/◌, ◌%◌, ◌^◌, ◌<◌, ◌≤◌, true, false, List, [], ◌∷◌, ◌++◌, None, Some, slice_index, slice_set}
+use Rattle.std.specs.Prelude.{◌≡◌, ◌≢◌, ◌⊎◌, ℕ, ◌+◌, ◌*◌, ◌/◌, ◌%◌, ◌^◌, ◌<◌, ◌≤◌, true, false, List, [], ◌∷◌, ◌++◌, None, Some, slice_index, slice_set, reverse}
 use mathlib.Core.Option.{some}
 use lib.ListN.{get_elem?}
 use Rattle.pd_types.specs.declared.oracle.Batch.{Batch}
@@ -17,7 +17,7 @@ use Rattle.tso_model.specs.Steps.{AtRest, HasClaim, HasHand, held, hand}
 use Rattle.tso_model.specs.Plan.{lead_next, tick_next}
 use Rattle.tso_model.specs.Moves.{gave_driver, new_driver, gave_client, new_client, new_note, joined, spent_view}
 use Rattle.tso_model.specs.Sound.{PartA, PartB, Sound, KeepsEach, IsAbove, IsUnseen}
-use Rattle.tso_model.specs.Ledger.{Recorded, IsWindowList, IsDrawList, back, drawn_by, HasAll, Gathered, GathersEach, IsRisingBy}
+use Rattle.tso_model.specs.Ledger.{Recorded, IsWindowList, IsDrawList, drawn_by, HasAll, Gathered, GathersEach, IsRisingBy}
 
 -- splitting a driver off keeps the rule, by itself and with the lists of the run
 abbrev pub DriverSplitKeeps : Setup → Type 0
@@ -106,7 +106,7 @@ DrawsInBound k = (words : List ℕ) (views : List View) (h : History) (id : ℕ)
 
 -- the batches of a sound state form the draw list of its windows
 abbrev pub DrawnInWindows : Setup → Type 0
-DrawnInWindows k = (words : List ℕ) (views : List View) (h : History) → PartA k words views h → PartB k words views h → IsDrawList (back (h.newest ∷ h.past)) (drawn_by h.drawn (h.newest ∷ h.past))
+DrawnInWindows k = (words : List ℕ) (views : List View) (h : History) → PartA k words views h → PartB k words views h → IsDrawList (reverse (h.newest ∷ h.past)) (drawn_by h.drawn (h.newest ∷ h.past))
 
 -- a view that has all numbers has the entries of the whole run, each part's told by the parts up to it
 abbrev pub GathersParts : Setup → Type 0

@@ -1,5 +1,5 @@
 -- The lists of a whole run in the order in which they are read: windows by rising term, batches by term and first.
-use Rattle.std.specs.Prelude.{◌≡◌, ℕ, ◌+◌, ◌<◌, ◌≤◌, ◌≢◌, ◌/◌, ◌%◌, slice_index, slice_set, ◌==◌, List, [], ◌∷◌, ◌++◌, map, cond, nat_lt, All, Contains}
+use Rattle.std.specs.Prelude.{◌≡◌, ℕ, ◌+◌, ◌<◌, ◌≤◌, ◌≢◌, ◌/◌, ◌%◌, slice_index, slice_set, ◌==◌, List, [], ◌∷◌, ◌++◌, map, cond, nat_lt, All, Contains, reverse}
 use Rattle.pd_types.specs.declared.oracle.Batch.{Batch}
 use Rattle.pd_types.specs.Batch.{first_of}
 use Rattle.tso_model.specs.declared.entries.Claim.{Claim}
@@ -23,11 +23,6 @@ use Rattle.tso_model.specs.declared.step.WordStep.{WordStep}
 use Rattle.tso_model.specs.declared.step.WordStep.TheVariants.{LoadCell, ClaimTerm, SaveEnd, RaiseCursor, StoreLimit, ClearLimit, LoadLimit, ArmCount, AddArmed}
 use Rattle.tso_model.specs.Steps.{word_of, word_after, view_after, new_claim, saved_window, held, hand, batch_of}
 use Rattle.tso_model.specs.Sound.{PartA, PartB, PartC}
-
--- a list with its last element first
-abbrev pub back : {A : Type 0} → List A → List A
-back [] = []
-back (x ∷ xs) = back xs ++ x ∷ []
 
 -- each window follows the one before it
 abbrev pub Rise : Claim → List Claim → Type 0
@@ -55,7 +50,7 @@ pub record IsDrawList (ws : List Claim) (bs : List Batch) : Type 0 where
 -- the batches of all windows, where the windows stand with the newest first
 abbrev pub drawn_by : (ℕ → List Grant) → List Claim → List Batch
 drawn_by d [] = []
-drawn_by d (c ∷ cs) = drawn_by d cs ++ back (map (λ (g : Grant). g.batch) (d c.window.term))
+drawn_by d (c ∷ cs) = drawn_by d cs ++ reverse (map (λ (g : Grant). g.batch) (d c.window.term))
 
 -- b behind all of its term and of lower terms
 abbrev pub place : Batch → List Batch → List Batch
@@ -69,8 +64,8 @@ pub record HasAll (k : Setup) (v : View) : Type 0 where
 
 -- What part A tells of a view that has all numbers, once the table is closed: its windows, and all its entries but the batches, are those of the whole run
 pub record GatheredWindows (k : Setup) (words : List ℕ) (h : History) (v : View) : Type 0 where
-  pub windows : IsWindowList (opening_claim k.cell) (back (h.newest ∷ h.past))
-  pub claims : (f : Claim → ℕ) → total f (claims v) + f (opening_claim k.cell) ≡ total f (back (h.newest ∷ h.past))
+  pub windows : IsWindowList (opening_claim k.cell) (reverse (h.newest ∷ h.past))
+  pub claims : (f : Claim → ℕ) → total f (claims v) + f (opening_claim k.cell) ≡ total f (reverse (h.newest ∷ h.past))
   pub starts : (f : Start → ℕ) → total f v.starts ≡ total f h.starts
   pub founds : (f : Found → ℕ) → total f v.founds ≡ total f h.founds
   pub published : (f : Published → ℕ) → total f v.published ≡ total f h.published
@@ -83,7 +78,7 @@ pub record GatheredWindows (k : Setup) (words : List ℕ) (h : History) (v : Vie
 
 -- What parts A and B tell then: its batches are those of the whole run, and form a draw list over the windows
 pub record GatheredBatches (h : History) (v : View) : Type 0 where
-  pub draws : IsDrawList (back (h.newest ∷ h.past)) (drawn_by h.drawn (h.newest ∷ h.past))
+  pub draws : IsDrawList (reverse (h.newest ∷ h.past)) (drawn_by h.drawn (h.newest ∷ h.past))
   pub batches : (f : Batch → ℕ) → total (λ (g : Grant). f g.batch) v.grants ≡ total f (drawn_by h.drawn (h.newest ∷ h.past))
 
 -- What is known of a view that has all numbers, once the table is closed: its lists are those of the whole run, and part C holds without a view
@@ -106,7 +101,7 @@ pub record Recorded (k : Setup) (words : List ℕ) (views : List View) (windows 
   pub a : PartA k words views history
   pub b : PartB k words views history
   pub c : PartC k words views history
-  pub windows_are : windows ≡ map (λ (c : Claim). c.window) (back (history.newest ∷ history.past))
+  pub windows_are : windows ≡ map (λ (c : Claim). c.window) (reverse (history.newest ∷ history.past))
   pub batches_are : batches ≡ drawn_by history.drawn (history.newest ∷ history.past)
 
 -- the last window of a list, made longer

@@ -1,5 +1,5 @@
 -- The state invariant, in three parts over one history: A speaks of numbers, windows and limits, B of batches and what callers have seen, C of refusals, found cursors and silence. It holds between any two steps of any actors.
-use Rattle.std.specs.Prelude.{◌≡◌, ◌≢◌, ℕ, ◌+◌, ◌-◌, ◌*◌, ◌/◌, ◌%◌, ◌<◌, ◌≤◌, ◌⊎◌, true, false, List, [], ◌∷◌, ◌++◌, length, map, slice_index, slice_set, None, IfSome, All, Contains, cond, ◌==◌}
+use Rattle.std.specs.Prelude.{◌≡◌, ◌≢◌, ℕ, ◌+◌, ◌*◌, ◌/◌, ◌%◌, ◌<◌, ◌≤◌, ◌⊎◌, true, false, List, [], ◌∷◌, ◌++◌, length, map, slice_index, slice_set, None, IfSome, All, Contains, cond, ◌==◌, ◌&&◌, nat_lt, nat_le, if◌then◌else◌}
 use mathlib.Core.Option.{some}
 use lib.ListN.{get_elem?}
 use Rattle.pd_types.specs.declared.oracle.Seen.{Seen}
@@ -32,7 +32,7 @@ clients_of v = v.client ∷ v.give_clients ++ v.took_clients
 
 -- 1 for the numbers from 1 to n, else 0
 abbrev pub in_range : ℕ → ℕ → ℕ
-in_range n d = cond (d == 0) 0 (cond (d - n == 0) 1 0)
+in_range n d = if nat_lt 0 d && nat_le d n then 1 else 0
 
 -- the entries carry these numbers and no others
 abbrev pub Own : {A : Type 0} → List ℕ → (A → ℕ) → List A → Type 0

@@ -1,5 +1,5 @@
 // What the definitions give, by themselves.
-ghost use Rattle.std.specs.Prelude.{◌≡◌, ◌⊎◌, ◌↔◌, ℕ, ◌+◌, ◌*◌, ◌%◌, ◌<◌, ◌≤◌, true, List, [], ◌∷◌};
+ghost use Rattle.std.specs.Prelude.{◌≡◌, ◌⊎◌, ◌↔◌, ℕ, ◌+◌, ◌*◌, ◌%◌, ◌<◌, ◌≤◌, true, List, [], ◌∷◌, reverse};
 ghost use mathlib.Core.Option.{some};
 ghost use lib.ListN.{get_elem?};
 ghost use Rattle.pd_types.specs.declared.oracle.Batch.{Batch};
@@ -14,7 +14,7 @@ ghost use Rattle.tso_model.specs.Steps.{May, saved_window};
 ghost use Rattle.tso_model.specs.Moves.{first_words, first_view, new_client};
 ghost use Rattle.tso_model.specs.Plan.{end_of, past_clock, saves_for};
 ghost use Rattle.tso_model.specs.Sound.{IsSetup, Sound, Keeps, KeepsParts};
-ghost use Rattle.tso_model.specs.Ledger.{Recorded, KeepsLists, IsWindowList, back, HasAll, Gathered};
+ghost use Rattle.tso_model.specs.Ledger.{Recorded, KeepsLists, IsWindowList, HasAll, Gathered};
 ghost use Rattle.tso_model.specs.Laws.{DriverSplitKeeps, DriverSplitKeepsParts, DriverSplitKeepsLists, ClientSplitKeeps, ClientSplitKeepsParts, ClientSplitKeepsLists, NoteSplitKeeps, NoteSplitKeepsParts, NoteSplitKeepsLists, JoinKeeps, JoinKeepsParts, JoinKeepsLists, CellOnlyRises, BeatenByAnother, LostToAnother, DrawsUnseen, DrawsInBound, DrawnInWindows, GathersParts, RisingAreEqual, SortedAreWhole, LeadBegins, TickGoes, MaySaveBelow, MayArmUpTo, IsSetupOf, CursorsInBound};
 
 /// Each kind of step keeps the rule from any state that meets it: part A from A alone, B from A and
@@ -60,7 +60,7 @@ pub fn each_step_learns()
 /// What the whole run's lists are, and that they can be told from one view that has all numbers.
 pub fn the_lists()
     ensures windows { (first c : Claim) (past : List Claim) →
-        AreClaims first c past → IsWindowList first (back (c ∷ past)) }
+        AreClaims first c past → IsWindowList first (reverse (c ∷ past)) }
     ensures draws { (k : Setup) → DrawnInWindows k }
     ensures gathered { (k : Setup) (words : List ℕ) (views : List View) (id : ℕ) (v : View) →
         Sound k words views → get_elem? views id ≡ some v → HasAll k v → Gathered k v }

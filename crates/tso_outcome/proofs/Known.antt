@@ -14,9 +14,8 @@ use Rattle.tso_model.specs.declared.view.View.{View}
 use Rattle.tso_model.specs.Lists.{total}
 use Rattle.tso_model.specs.Words.{IsOpen, opening_claim, Follows, last_end}
 use Rattle.tso_model.specs.History.{History, Stands, claims, added_at, added_else}
-use Rattle.tso_model.specs.Ledger.{back, Rise, IsWindowList}
+use Rattle.tso_model.specs.Ledger.{Rise, IsWindowList}
 use Rattle.tso_model.proofs.Basics.{by_bool, by_eq, in_head, in_tail, in_cons, in_nil, weight_le, added_parts}
-use Rattle.tso_model.proofs.Sums.{total-append}
 use Rattle.tso_outcome.specs.Drives.{raised}
 use Rattle.tso_driver.specs.Driving.{start_at}
 use Rattle.tso_outcome.specs.Clients.{asked_by}
@@ -24,15 +23,12 @@ use Rattle.tso_outcome.specs.Runs.{Run, ClientPart, asked_of_all, asked_of_other
 use Rattle.tso_outcome.proofs.Ended.{CameBack, AreDistinctBy}
 use Rattle.tso_outcome.specs.Ends.{DriverEnd, ClientEnd}
 use Rattle.tso_model.specs.Moves.{driver_view, client_view}
+use Rattle.tso_model.proofs.Closing.{reverse_total}
 use Rattle.tso_model.proofs.Codes.{hit, hit-is, stands, weighs, claim_code, claim_one}
 use Rattle.tso_outcome.proofs.Codes.{located, brought, moved, start_code, start_one, found_code, found_one, published_code, published_one, look_code, look_one, refusal_code, refusal_one}
 use Rattle.tso_outcome.proofs.Chains.{drew_asked, drew_own}
 use Rattle.tso_outcome.proofs.Drives.{drove_starts, drove_back, drove_own, WasPublished, drove_published}
 use Rattle.tso_outcome.proofs.Above.{in_map, to_map, lists_of}
-
-back_total : {A : Type 0} (f : A → ℕ) (xs : List A) → total f (back xs) ≡ total f xs
-back_total f [] = refl
-back_total f (x ∷ xs) = omega (arith, total-append f (back xs) (x ∷ []), back_total f xs)
 
 -- one with a number
 pub once : {A : Type 0} (number : A → ℕ) (xs : List A) → AreDistinctBy number xs → (x y : A) → Contains xs x → Contains xs y → number x ≡ number y → x ≡ y
@@ -99,11 +95,11 @@ module _ (run : Run) (b : CameBack run) where
   -- a term up to the newest one has a window
   pub has_term : (t : ℕ) → run.setup.cell.term ≤ t → t ≤ b.gathered.history.newest.window.term → (c : Claim) × Contains b.claims c × (c.window.term ≡ t)
   has_term t low high = let c = rise_has (opening_claim run.setup.cell) window_list.rest window_list.rises b.gathered.history.newest
-      (in_all b.gathered.history.newest (moved claim_code claim_one (b.gathered.history.newest ∷ b.gathered.history.past) b.claims (λ f. omega (arith, b.claims_weigh f, b.gathered.a.claims f, back_total f (b.gathered.history.newest ∷ b.gathered.history.past))) b.gathered.history.newest (in_head b.gathered.history.newest b.gathered.history.past))) t low high in (c.0, from_all c.0 c.1, c.2)
+      (in_all b.gathered.history.newest (moved claim_code claim_one (b.gathered.history.newest ∷ b.gathered.history.past) b.claims (λ f. omega (arith, b.claims_weigh f, b.gathered.a.claims f, reverse_total f (b.gathered.history.newest ∷ b.gathered.history.past))) b.gathered.history.newest (in_head b.gathered.history.newest b.gathered.history.past))) t low high in (c.0, from_all c.0 c.1, c.2)
 
   pub newest_ends : b.gathered.history.newest.window.hi ≤ last_end run.windows
   newest_ends = subst (λ l. b.gathered.history.newest.window.hi ≤ last_end l) (ap (map (λ (c : Claim). c.window)) (sym window_list.all) ∙ sym b.windows_are) (rise_last (opening_claim run.setup.cell) window_list.rest window_list.rises b.gathered.history.newest
-      (in_all b.gathered.history.newest (moved claim_code claim_one (b.gathered.history.newest ∷ b.gathered.history.past) b.claims (λ f. omega (arith, b.claims_weigh f, b.gathered.a.claims f, back_total f (b.gathered.history.newest ∷ b.gathered.history.past))) b.gathered.history.newest (in_head b.gathered.history.newest b.gathered.history.past))))
+      (in_all b.gathered.history.newest (moved claim_code claim_one (b.gathered.history.newest ∷ b.gathered.history.past) b.claims (λ f. omega (arith, b.claims_weigh f, b.gathered.a.claims f, reverse_total f (b.gathered.history.newest ∷ b.gathered.history.past))) b.gathered.history.newest (in_head b.gathered.history.newest b.gathered.history.past))))
 
 module _ (run : Run) (b : CameBack run) where
   abbrev pub the_history : History
@@ -121,11 +117,11 @@ module _ (run : Run) (b : CameBack run) where
   -- WINDOWS
   pub claims_stand : (c : Claim) → Stands the_history c → Contains b.claims c
   claims_stand c h = moved claim_code claim_one (the_history.newest ∷ the_history.past) b.claims
-      (λ f. omega (arith, b.claims_weigh f, b.gathered.a.claims f, back_total f (the_history.newest ∷ the_history.past))) c h
+      (λ f. omega (arith, b.claims_weigh f, b.gathered.a.claims f, reverse_total f (the_history.newest ∷ the_history.past))) c h
 
   pub stand_claims : (c : Claim) → Contains b.claims c → Stands the_history c
   stand_claims c h = moved claim_code claim_one b.claims (the_history.newest ∷ the_history.past)
-      (λ f. omega (arith, b.claims_weigh f, b.gathered.a.claims f, back_total f (the_history.newest ∷ the_history.past))) c h
+      (λ f. omega (arith, b.claims_weigh f, b.gathered.a.claims f, reverse_total f (the_history.newest ∷ the_history.past))) c h
 
   pub claim_in : (e : DriverEnd) → Contains b.drivers e → (c : Claim) → Contains (claims e.view) c → Contains b.claims c
   claim_in e h c there = stands claim_code claim_one c b.claims (omega (
