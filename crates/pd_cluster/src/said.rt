@@ -18,8 +18,8 @@ impl fmt::Display for Said {
 
     fn fmt<W: fmt::Write>(&self, f: &mut fmt::Formatter<W>) -> fmt::Result {
         match self {
-            Said::ByOracle(reply) => write!(f, "{reply}"),
-            Said::ByCluster(reply) => write!(f, "{reply}"),
+            Said::ByOracle(reply) => reply.fmt(f),
+            Said::ByCluster(reply) => reply.fmt(f),
             Said::Popped(None) => write!(f, "empty"),
             Said::Popped(Some(message)) => {
                 let StepMsg {

@@ -98,8 +98,16 @@ pub fn leads(events: &[Numbered]) -> u64
     count
 }
 
-/// The first limit that the events break, and what was counted.
-pub fn first_broken(alloc: Global, events: &[Numbered]) -> Result<Option<Broken>, NoMemory>
+/// The first limit that the events break, and what was counted. The greatest driver and client that they
+/// name are handed in.
+pub fn first_broken(
+    alloc: Global,
+    events: &[Numbered],
+    drivers: u64,
+    clients: u64,
+) -> Result<Option<Broken>, NoMemory>
+    requires drivers { drivers ≡ greatest driver_of events.now }
+    requires clients { clients ≡ greatest client_of events.now }
     ensures value { IfOk result (λ broken. broken ≡ broken_by events.now) }
 {
     if events.len() > MAX_EVENTS {
@@ -108,18 +116,16 @@ pub fn first_broken(alloc: Global, events: &[Numbered]) -> Result<Option<Broken>
             count: events.len() as u64,
         }));
     }
-    let most = drivers(events);
-    if most > MAX_DRIVERS {
+    if drivers > MAX_DRIVERS {
         return Ok(Some(Broken {
             what: Limited::Drivers,
-            count: most,
+            count: drivers,
         }));
     }
-    let most = clients(events);
-    if most > MAX_CLIENTS {
+    if clients > MAX_CLIENTS {
         return Ok(Some(Broken {
             what: Limited::Clients,
-            count: most,
+            count: clients,
         }));
     }
     let count = stores(alloc, events)?;

@@ -65,7 +65,7 @@ fn lines_of(alloc: Global, events: Vec<Numbered>) -> Result<Vec<Line>, NoMemory>
     requires clients { All (λ e. client_of e.event ≤ 64) events.items }
     ensures ok { IfOk result (λ lines. lines.items ≡ map line_of events.items) }
 {
-    let mut lines = Vec::new(alloc);
+    let mut lines = Vec::with_capacity(alloc, events.len())?;
     for numbered in events {
         lines.push(line(numbered))?;
     }
@@ -84,16 +84,16 @@ pub fn read_script(alloc: Global, text: &[u8], mode: Mode) -> Result<Script, Scr
         Ok(events) => events,
         Err(refusal) => return Err(refusal),
     };
-    match first_broken(alloc, &events) {
+    let (drivers, clients) = (drivers(&events), clients(&events));
+    match first_broken(alloc, &events, drivers, clients) {
         Ok(None) => {}
         Ok(Some(Broken { what, count })) => return Err(ScriptRefusal::Limit { what, count }),
         Err(_) => return Err(ScriptRefusal::NoMemory),
     }
-    let (drivers, clients) = (drivers(&events) as u8, clients(&events) as u8);
     match lines_of(alloc, events) {
         Ok(lines) => Ok(Script {
-            drivers,
-            clients,
+            drivers: drivers as u8,
+            clients: clients as u8,
             lines: Lines::of(lines),
         }),
         Err(_) => Err(ScriptRefusal::NoMemory),
