@@ -71,7 +71,7 @@ use Rattle.pd_cluster.specs.Talks.{AreHeeded, GoOn, Talk, heeded, heeded_by, hee
 use Rattle.pd_cluster.specs.declared.said.Said.{Said}
 use Rattle.pd_cluster.specs.declared.said.Said.TheVariants.{ByCluster}
 use Rattle.pd_cluster.proofs.Benching.{all_silent}
-use Rattle.pd_cluster.proofs.Sending.{AreTurnless, IsTurnless, besides_turnless, nothing_said, put_at, served_asked}
+use Rattle.pd_cluster.proofs.Sending.{AreTurnless, IsTurnless, besides_turnless, nothing_said, put_at, served_asked, turnless}
 
 -- REPLIES THAT TELL OF NO SCHEDULER
 abbrev Quiet : Reply → Type 0
@@ -240,15 +240,7 @@ term_quiet driver (Some part) (ask.Alive store moment) heard other = alive_quiet
 term_quiet driver (Some part) (ask.Rule moment json) heard other = rule_quiet (rule_told json) part.rules heard
 term_quiet driver (Some part) (ask.Unrule moment group id) heard other = unrule_quiet group id part.rules heard
 term_quiet driver None (ask.Term term moment) heard other = answers_quiet (begun_reply term heard) heard.answers refl
-term_quiet driver None ask.Retire heard other = refl
-term_quiet driver None (ask.Hello store moment address labels) heard other = refl
-term_quiet driver None (ask.Alive store moment) heard other = refl
-term_quiet driver None (ask.Beat store moment beat) heard other = refl
-term_quiet driver None (ask.Rule moment json) heard other = refl
-term_quiet driver None (ask.Unrule moment group id) heard other = refl
-term_quiet driver None (ask.Check moment region) heard other = refl
-term_quiet driver None (ask.Patrol moment workers) heard other = refl
-term_quiet driver None (ask.Ctl moment words) heard other = refl
+term_quiet driver None _ heard other = refl
 
 one_turn_few : (names : List (List ℕ)) → one_turn names ≤ 1
 one_turn_few [] = omega arith
@@ -261,26 +253,9 @@ reply_heeds driver (Some part) (ask.Schedule moment) heard few last =
     ends_last Deed (Heeds heard.bench) (idle (around_at part moment) (planning_of part) replies.NotLeading) (schedule_of part moment heard.bench (hearing part.known heard.answers)) last
     (schedule_heeds (around_at part moment) (planning_of part) heard.bench (hearing part.known heard.answers) (omega (arith, few, one_turn_few heard.names)))
 reply_heeds driver None (ask.Schedule moment) heard few last = none_at_all heard.bench few
-reply_heeds driver (Some part) (ask.Term term moment) heard few last = term_quiet driver (Some part) (ask.Term term moment) heard (λ m h. cc) ∙ none_at_all heard.bench few
-reply_heeds driver (Some part) ask.Retire heard few last = term_quiet driver (Some part) ask.Retire heard (λ m h. cc) ∙ none_at_all heard.bench few
-reply_heeds driver (Some part) (ask.Hello store moment address labels) heard few last = term_quiet driver (Some part) (ask.Hello store moment address labels) heard (λ m h. cc) ∙ none_at_all heard.bench few
-reply_heeds driver (Some part) (ask.Alive store moment) heard few last = term_quiet driver (Some part) (ask.Alive store moment) heard (λ m h. cc) ∙ none_at_all heard.bench few
-reply_heeds driver (Some part) (ask.Beat store moment beat) heard few last = term_quiet driver (Some part) (ask.Beat store moment beat) heard (λ m h. cc) ∙ none_at_all heard.bench few
-reply_heeds driver (Some part) (ask.Rule moment json) heard few last = term_quiet driver (Some part) (ask.Rule moment json) heard (λ m h. cc) ∙ none_at_all heard.bench few
-reply_heeds driver (Some part) (ask.Unrule moment group id) heard few last = term_quiet driver (Some part) (ask.Unrule moment group id) heard (λ m h. cc) ∙ none_at_all heard.bench few
-reply_heeds driver (Some part) (ask.Check moment region) heard few last = term_quiet driver (Some part) (ask.Check moment region) heard (λ m h. cc) ∙ none_at_all heard.bench few
-reply_heeds driver (Some part) (ask.Patrol moment workers) heard few last = term_quiet driver (Some part) (ask.Patrol moment workers) heard (λ m h. cc) ∙ none_at_all heard.bench few
-reply_heeds driver (Some part) (ask.Ctl moment words) heard few last = term_quiet driver (Some part) (ask.Ctl moment words) heard (λ m h. cc) ∙ none_at_all heard.bench few
 reply_heeds driver None (ask.Term term moment) heard few last = term_quiet driver None (ask.Term term moment) heard (λ m h. cc) ∙ none_at_all heard.bench few
-reply_heeds driver None ask.Retire heard few last = none_at_all heard.bench few
-reply_heeds driver None (ask.Hello store moment address labels) heard few last = none_at_all heard.bench few
-reply_heeds driver None (ask.Alive store moment) heard few last = none_at_all heard.bench few
-reply_heeds driver None (ask.Beat store moment beat) heard few last = none_at_all heard.bench few
-reply_heeds driver None (ask.Rule moment json) heard few last = none_at_all heard.bench few
-reply_heeds driver None (ask.Unrule moment group id) heard few last = none_at_all heard.bench few
-reply_heeds driver None (ask.Check moment region) heard few last = none_at_all heard.bench few
-reply_heeds driver None (ask.Patrol moment workers) heard few last = none_at_all heard.bench few
-reply_heeds driver None (ask.Ctl moment words) heard few last = none_at_all heard.bench few
+reply_heeds driver None _ heard few last = none_at_all heard.bench few
+reply_heeds driver (Some part) request heard few last = term_quiet driver (Some part) request heard (λ m h. cc) ∙ none_at_all heard.bench few
 
 -- no call comes behind the last answer
 pub asked_end : (next : List MetaAnswer → Option MetaCall) (before answers : List MetaAnswer) → AreAsked next before answers → next (before ++ answers) ≡ None
@@ -313,22 +288,8 @@ cond_none false = refl
 
 -- the driver itself asks, or no scheduler takes a turn
 by_itself : (d : ℕ) (request : Request) → (driver_in (Some (asker d request)) ≡ d) ⊎ IsTurnless request
-by_itself d (ask.Hello store moment address labels) = inr (λ part names. none part names)
-  where
-    none : (part : Option Part) (names : List (List ℕ)) → turns_of part (ask.Hello store moment address labels) names ≡ 0
-    none None names = refl
-    none (Some part) names = refl
-by_itself d (ask.Alive store moment) = inr (λ part names. none part names)
-  where
-    none : (part : Option Part) (names : List (List ℕ)) → turns_of part (ask.Alive store moment) names ≡ 0
-    none None names = refl
-    none (Some part) names = refl
-by_itself d (ask.Beat store moment beat) = inr (λ part names. none part names)
-  where
-    none : (part : Option Part) (names : List (List ℕ)) → turns_of part (ask.Beat store moment beat) names ≡ 0
-    none None names = refl
-    none (Some part) names = refl
-by_itself d request = inl refl
+by_itself d (ask.Schedule moment) = inl refl
+by_itself d request = inr (turnless request (λ m h. cc))
 
 -- what a request leaves of a bench
 module _ (kept : Kept) (d n : ℕ) (request : Request) (e : ℕ) where

@@ -14,7 +14,7 @@ use Rattle.pd_turn.specs.Turns.{AreApart}
 use Rattle.pd_types.specs.declared.oracle.Actor.{Actor}
 use Rattle.pd_types.specs.declared.oracle.Actor.TheVariants.{Driver as ByDriver, Client as ByClient, Store as ByStore}
 use Rattle.pd_types.specs.declared.request.Request.{Request}
-use Rattle.pd_types.specs.declared.request.Request.TheVariants.{Hello, Alive, Beat, Rule, Unrule, Check, Patrol, Schedule, Ctl, Term, Retire}
+use Rattle.pd_types.specs.declared.request.Request.TheVariants.{Hello, Alive, Beat}
 use Rattle.pd_script.specs.Formed.{IsAsked}
 use Rattle.pd_script.specs.Lawful.{AreLawful, IsFormed, IsLawful, IsLawfulScript, actor_in, standing_of}
 use Rattle.pd_script.specs.Scripts.{asker, store_by}
@@ -53,14 +53,7 @@ by_asker : (d : ℕ) (request : Request) (P : Actor → Type 0) → ((s : ℕ) �
 by_asker d (Hello store moment address labels) P by_store by_driver = by_store store refl (λ asked. asked.0.id.some)
 by_asker d (Alive store moment) P by_store by_driver = by_store store refl (λ asked. asked.id.some)
 by_asker d (Beat store moment beat) P by_store by_driver = by_store store refl (λ asked. asked.0.id.some)
-by_asker d (Rule moment json) P by_store by_driver = by_driver
-by_asker d (Unrule moment group id) P by_store by_driver = by_driver
-by_asker d (Check moment region) P by_store by_driver = by_driver
-by_asker d (Patrol moment workers) P by_store by_driver = by_driver
-by_asker d (Schedule moment) P by_store by_driver = by_driver
-by_asker d (Ctl moment words) P by_store by_driver = by_driver
-by_asker d (Term term moment) P by_store by_driver = by_driver
-by_asker d Retire P by_store by_driver = by_driver
+by_asker d _ P by_store by_driver = by_driver
 
 -- an element in front of a list, where a test passes, and its image
 image : {A B : Type 0} (f : A → B) (x : A) (y : B) (xs : List A) (ys : List B) (test : Bool) → (test ≡ true → f x ≡ y) → map f xs ≡ ys → map f (cons_option (cond test (Some x) None) xs) ≡ cond test (y ∷ ys) ys

@@ -1,5 +1,5 @@
 -- Each step that a replay prints was sent by an entry of its journals, which are legal, and is safe there.
-use Rattle.std.proofs.Common.{refl, ◌≡◌, ℕ, zero, suc, ◌+◌, ◌<◌, ◌≤◌, ◌⊎◌, inl, inr, Bool, true, false, cond, eqb, List, [], ◌∷◌, ◌++◌, length, length-append, length-set, nat_eq, take, get_or, replicate, set, append_assoc, ap, sym, ◌∙◌, subst, Option, Some, None, arith}
+use Rattle.std.proofs.Common.{refl, ◌≡◌, ◌≢◌, ℕ, zero, suc, ◌+◌, ◌<◌, ◌≤◌, ◌⊎◌, inl, inr, Bool, true, false, cond, eqb, List, [], ◌∷◌, ◌++◌, length, length-append, length-set, nat_eq, take, get_or, replicate, set, append_assoc, ap, sym, ◌∙◌, subst, Option, Some, None, arith}
 use Rattle.std.specs.Prelude.{Contains, reverse}
 use Rattle.std.specs.List.{AllByRecursion}
 use Rattle.std.specs.FinMap as map
@@ -85,13 +85,17 @@ abbrev pub AreTurnless : Option Request → Type 0
 AreTurnless None = Unit {0}
 AreTurnless (Some request) = IsTurnless request
 
+-- each request does but Schedule
+pub turnless : (request : Request) → ((moment : ℕ) → request ≢ ask.Schedule moment) → IsTurnless request
+turnless (ask.Schedule moment) other part names = absurd (other moment refl)
+turnless _ other None names = refl
+turnless _ other (Some part) names = refl
+
 pub term_turnless : (term moment : ℕ) → IsTurnless (ask.Term term moment)
-term_turnless term moment None names = refl
-term_turnless term moment (Some part) names = refl
+term_turnless term moment = turnless (ask.Term term moment) (λ m h. cc)
 
 pub retire_turnless : IsTurnless ask.Retire
-retire_turnless None names = refl
-retire_turnless (Some part) names = refl
+retire_turnless = turnless ask.Retire (λ m h. cc)
 
 published_turnless : (hi : ℕ) (lead : Option BegunLead) → AreTurnless (published_term hi lead)
 published_turnless hi None = tt

@@ -65,12 +65,7 @@ parts_of (Some es) (ask.Ctl moment words) entry reply heard sent has = by (resig
     by : (t : Bool) → resigns words ≡ t → HasParts (Some es) (ask.Ctl moment words) entry
     by true is = none_in sent (subst (λ (sents : List Sent). Contains sents sent) (resigned_sends (part_of es) moment words heard.answers is) has)
     by false is = record { before = part_of es; after = part_of (entry ∷ es); stood = refl; stands = ap (λ (t : Bool). option_map part_of (cond t None (Some (entry ∷ es)))) is }
-parts_of (Some es) (ask.Term term moment) entry reply heard sent has = none_in sent has
-parts_of (Some es) ask.Retire entry reply heard sent has = none_in sent has
-parts_of (Some es) (ask.Hello store moment address labels) entry reply heard sent has = none_in sent has
-parts_of (Some es) (ask.Alive store moment) entry reply heard sent has = none_in sent has
-parts_of (Some es) (ask.Rule moment json) entry reply heard sent has = none_in sent has
-parts_of (Some es) (ask.Unrule moment group id) entry reply heard sent has = none_in sent has
+parts_of (Some es) _ entry reply heard sent has = none_in sent has
 
 -- a message that a driver's journal sent safely
 pub record IsOwn (d : ℕ) (journal : List Entry) (m : StepMsg) : Type 0 where

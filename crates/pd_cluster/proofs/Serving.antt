@@ -363,26 +363,8 @@ gave (Some es) (ask.Ctl moment words) entry = by (resigns words)
     by : (t : Bool) → not (is_some (option_map part_of (cond t None (Some (entry ∷ es))))) ≡ t
     by true = refl
     by false = refl
-gave None (ask.Term term moment) entry = refl
-gave None ask.Retire entry = refl
-gave None (ask.Hello store moment address labels) entry = refl
-gave None (ask.Alive store moment) entry = refl
-gave None (ask.Beat store moment beat) entry = refl
-gave None (ask.Rule moment json) entry = refl
-gave None (ask.Unrule moment group id) entry = refl
-gave None (ask.Check moment region) entry = refl
-gave None (ask.Patrol moment workers) entry = refl
-gave None (ask.Schedule moment) entry = refl
-gave (Some es) (ask.Term term moment) entry = refl
-gave (Some es) ask.Retire entry = refl
-gave (Some es) (ask.Hello store moment address labels) entry = refl
-gave (Some es) (ask.Alive store moment) entry = refl
-gave (Some es) (ask.Beat store moment beat) entry = refl
-gave (Some es) (ask.Rule moment json) entry = refl
-gave (Some es) (ask.Unrule moment group id) entry = refl
-gave (Some es) (ask.Check moment region) entry = refl
-gave (Some es) (ask.Patrol moment workers) entry = refl
-gave (Some es) (ask.Schedule moment) entry = refl
+gave None _ entry = refl
+gave (Some es) _ entry = refl
 
 pub gave_up_is : (kept : Kept) (journals : List (List Entry)) (d n : ℕ) (request : Request) → d < length kept.journals → journals ≡ (with_served kept d n request).journals
     → ((is_command request && is_some (part_at kept d)) && not (is_some (part_after (past_at journals d)))) ≡ gives_up (part_at kept d) request

@@ -6,7 +6,7 @@ use Rattle.std.specs.Ordering.{nat_cmp}
 use Rattle.pd_types.specs.declared.oracle.Actor.{Actor}
 use Rattle.pd_types.specs.declared.oracle.Actor.TheVariants.{Driver as ByDriver, Client as ByClient, Store as ByStore}
 use Rattle.pd_types.specs.declared.request.Request.{Request}
-use Rattle.pd_types.specs.declared.request.Request.TheVariants.{Hello, Alive, Beat, Rule, Unrule, Check, Patrol, Schedule, Ctl, Term as BeginTerm, Retire}
+use Rattle.pd_types.specs.declared.request.Request.TheVariants.{Hello, Alive, Beat, Patrol, Ctl}
 use Rattle.pd_script.specs.Grammar.{AtFault, events_of}
 use Rattle.pd_script.specs.Table.{row}
 use Rattle.pd_script.specs.declared.act.Act.{Act}
@@ -84,14 +84,7 @@ abbrev pub asker : ℕ → Request → Actor
 asker driver (Hello store moment address labels) = ByStore store
 asker driver (Alive store moment) = ByStore store
 asker driver (Beat store moment beat) = ByStore store
-asker driver (Rule moment json) = ByDriver driver
-asker driver (Unrule moment group id) = ByDriver driver
-asker driver (Check moment region) = ByDriver driver
-asker driver (Patrol moment workers) = ByDriver driver
-asker driver (Schedule moment) = ByDriver driver
-asker driver (Ctl moment words) = ByDriver driver
-asker driver (BeginTerm term moment) = ByDriver driver
-asker driver Retire = ByDriver driver
+asker driver _ = ByDriver driver
 
 -- the store that the actor is, where it is one
 abbrev pub store_in : Actor → List ℕ
@@ -151,15 +144,7 @@ stores_in events = length (stores_from [] events)
 abbrev pub asks_report : Request → Bool
 asks_report (Patrol moment workers) = true
 asks_report (Ctl moment words) = true
-asks_report (Hello store moment address labels) = false
-asks_report (Alive store moment) = false
-asks_report (Beat store moment beat) = false
-asks_report (Rule moment json) = false
-asks_report (Unrule moment group id) = false
-asks_report (Check moment region) = false
-asks_report (Schedule moment) = false
-asks_report (BeginTerm term moment) = false
-asks_report Retire = false
+asks_report _ = false
 
 -- the act is such a request
 abbrev pub is_report : Act → Bool

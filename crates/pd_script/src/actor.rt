@@ -14,10 +14,7 @@ pub fn asker(driver: u8, request: &Request) -> Actor
     match request {
         Request::Hello { store, .. } | Request::Alive { store, .. } | Request::Beat { store, .. } =>
             { Actor::Store(*store) }
-        Request::Rule { .. } | Request::Unrule { .. } => Actor::Driver(driver),
-        Request::Check { .. } | Request::Patrol { .. } => Actor::Driver(driver),
-        Request::Schedule { .. } | Request::Ctl { .. } => Actor::Driver(driver),
-        Request::Term { .. } | Request::Retire => Actor::Driver(driver),
+        _ => Actor::Driver(driver),
     }
 }
 
@@ -28,10 +25,7 @@ pub fn speaker(request: &Request) -> Option<u64>
     match request {
         Request::Hello { store, .. } | Request::Alive { store, .. } | Request::Beat { store, .. } =>
             { Some(*store) }
-        Request::Rule { .. } | Request::Unrule { .. } => None,
-        Request::Check { .. } | Request::Patrol { .. } => None,
-        Request::Schedule { .. } | Request::Ctl { .. } => None,
-        Request::Term { .. } | Request::Retire => None,
+        _ => None,
     }
 }
 
@@ -39,13 +33,7 @@ pub fn speaker(request: &Request) -> Option<u64>
 pub fn asks_report(request: &Request) -> bool
     ensures value { result ≡ asks_report request.now }
 {
-    match request {
-        Request::Patrol { .. } | Request::Ctl { .. } => true,
-        Request::Hello { .. } | Request::Alive { .. } | Request::Beat { .. } => false,
-        Request::Rule { .. } | Request::Unrule { .. } => false,
-        Request::Check { .. } | Request::Schedule { .. } => false,
-        Request::Term { .. } | Request::Retire => false,
-    }
+    matches!(request, Request::Patrol { .. } | Request::Ctl { .. })
 }
 
 // Who acts in a place.

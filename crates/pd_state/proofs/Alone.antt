@@ -4,13 +4,13 @@ use Rattle.std.specs.Prelude.{Result, Ok, IfOk}
 use Rattle.pd_types.specs.declared.memory.NoMemory.{NoMemory}
 use Rattle.pd_types.specs.declared.request.Request.{Request}
 use Rattle.pd_types.specs.declared.request.Request.TheVariants as ask
-use Rattle.sched_api.specs.Benches.{Seats}
+use Rattle.sched_api.specs.Benches.{Seats, names_of}
 use Rattle.sched_api.specs.declared.scheduler.Fate.{Fate}
 use Rattle.sched_api.specs.declared.scheduler.Said.{Said}
 use Rattle.pd_ctl.specs.declared.command.Command.{Command}
 use Rattle.pd_ctl.specs.declared.command.Command.TheVariants as commands
 use Rattle.pd_ctl.specs.declared.fault.CtlFault.{CtlFault}
-use Rattle.pd_state.specs.BenchHeard.{Becomes, Leaves, asked_at, asks_names, dropped, dropped_by, fate_told, names_by, names_heard, turns_of}
+use Rattle.pd_state.specs.BenchHeard.{Becomes, HearsBench, Leaves, asked_at, asks_names, dropped, dropped_by, fate_told, names_by, turns_of}
 use Rattle.pd_state.specs.Heard.{IsAlone}
 use Rattle.pd_state.specs.Reports.{command_told}
 use Rattle.pd_state.specs.declared.heard.Done.{Done}
@@ -45,20 +45,12 @@ module _ (part : Option Part) (request is : Request) (same : request ≡ is) (as
   asks_still : asks_names request ≡ false
   asks_still = ap asks_names same ∙ asks
 
-  pub turns_alone : (heard : Heard) → IsAlone heard → length heard.bench ≡ turns_of part request heard.names
-  turns_alone heard alone = ap length alone.bench ∙ sym (no_turn part request heard.names asks_still)
+  pub hears_alone : (reply : Reply) (seats : Seats) (heard : Heard) → IsAlone heard → HearsBench part request reply heard seats seats
+  hears_alone reply seats heard alone = record {
+    turns = ap length alone.bench ∙ sym (no_turn part request heard.names asks_still);
+    names = alone.names ∙ ap (λ (t : Bool). cond t (names_of seats) []) (sym asks_still);
+    becomes = stays_so (asked_at part request) (fate_told reply) heard.bench (dropped part request heard.names) seats alone.bench (none_goes part request heard.names asks_still);
+  }
 
-  pub names_alone : (names : List (List ℕ)) (heard : Heard) → IsAlone heard → heard.names ≡ names_heard request names
-  names_alone names heard alone = alone.names ∙ ap (λ (t : Bool). cond t names []) (sym asks_still)
-
-  pub bench_alone : (reply : Reply) (seats : Seats) (heard : Heard) → IsAlone heard → Becomes (asked_at part request) (fate_told reply) heard.bench (dropped part request heard.names) seats seats
-  bench_alone reply seats heard alone = stays_so (asked_at part request) (fate_told reply) heard.bench (dropped part request heard.names) seats alone.bench (none_goes part request heard.names asks_still)
-
-  pub turns_ok : (r : Result Done NoMemory) → IfOk r (λ done. IsAlone done.heard) → IfOk r (λ done. length done.heard.bench ≡ turns_of part request done.heard.names)
-  turns_ok r h = on_ok r (λ d. IsAlone d.heard) (λ d. length d.heard.bench ≡ turns_of part request d.heard.names) (λ d alone. turns_alone d.heard alone) h
-
-  pub names_ok : (names : List (List ℕ)) (r : Result Done NoMemory) → IfOk r (λ done. IsAlone done.heard) → IfOk r (λ done. done.heard.names ≡ names_heard request names)
-  names_ok names r h = on_ok r (λ d. IsAlone d.heard) (λ d. d.heard.names ≡ names_heard request names) (λ d alone. names_alone names d.heard alone) h
-
-  pub bench_ok : (seats : Seats) (r : Result Done NoMemory) → IfOk r (λ done. IsAlone done.heard) → IfOk r (λ done. Becomes (asked_at part request) (fate_told done.reply) done.heard.bench (dropped part request done.heard.names) seats seats)
-  bench_ok seats r h = on_ok r (λ d. IsAlone d.heard) (λ d. Becomes (asked_at part request) (fate_told d.reply) d.heard.bench (dropped part request d.heard.names) seats seats) (λ d alone. bench_alone d.reply seats d.heard alone) h
+  pub hears_ok : (seats : Seats) (r : Result Done NoMemory) → IfOk r (λ done. IsAlone done.heard) → IfOk r (λ done. HearsBench part request done.reply done.heard seats seats)
+  hears_ok seats r h = on_ok r (λ d. IsAlone d.heard) (λ d. HearsBench part request d.reply d.heard seats seats) (λ d alone. hears_alone d.reply seats d.heard alone) h

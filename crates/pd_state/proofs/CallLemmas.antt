@@ -113,13 +113,6 @@ two_calls (Some part) (ask.Hello store moment address labels) said answers few_a
     let few = few_calls (hello_calls part store address labels) answers (asked_calls (hello_calls part store address labels) answers asked) in
     let one = unless_few (hello_refusal (state_at store part.stores) (length part.stores)) (put_call part (store_key store) (store_bytes (greeted_record part store address labels))) in
     omega (arith, few, one)
-two_calls None (ask.Hello store moment address labels) said answers few_asked asked = omega (arith, ap length (no_calls answers asked))
-two_calls None (ask.Alive store moment) said answers few_asked asked = omega (arith, ap length (no_calls answers asked))
-two_calls (Some part) (ask.Alive store moment) said answers few_asked asked = omega (arith, ap length (no_calls answers asked))
-two_calls None (ask.Beat store moment beat) said answers few_asked asked = omega (arith, ap length (no_calls answers asked))
-two_calls (Some part) (ask.Beat store moment beat) said answers few_asked asked = omega (arith, ap length (no_calls answers asked))
-two_calls None (ask.Rule moment json) said answers few_asked asked = omega (arith, ap length (no_calls answers asked))
-two_calls None (ask.Unrule moment group id) said answers few_asked asked = omega (arith, ap length (no_calls answers asked))
 two_calls (Some part) (ask.Rule moment json) said answers few_asked asked =
     let few = few_calls (rule_calls part (rule_told json)) answers (asked_calls (rule_calls part (rule_told json)) answers asked) in
     let two = rule_few part (rule_told json) in
@@ -132,8 +125,7 @@ two_calls part (ask.Check moment region) said answers few_asked asked = absurd f
 two_calls part (ask.Patrol moment workers) said answers few_asked asked = absurd few_asked
 two_calls part (ask.Schedule moment) said answers few_asked asked = absurd few_asked
 two_calls part (ask.Ctl moment words) said answers few_asked asked = absurd few_asked
-two_calls None ask.Retire said answers few_asked asked = omega (arith, ap length (no_calls answers asked))
-two_calls (Some part) ask.Retire said answers few_asked asked = omega (arith, ap length (no_calls answers asked))
+two_calls _ _ said answers few_asked asked = omega (arith, ap length (no_calls answers asked))
 
 -- the calls of each request
 pub term_calls : (part : Option Part) (term moment : ℕ) (answers : List MetaAnswer) → AreAsked (next_call part (ask.Term term moment) []) [] answers → AreCalls (calls.Lead term ∷ []) answers

@@ -1,5 +1,5 @@
 -- From what a command of pd-ctl did over a door to what is said of the request.
-use Rattle.std.proofs.Common.{refl, IfOk, ◌≡◌, ℕ, max, false, List, [], ◌∷◌, ◌++◌, ap, sym, ◌∙◌, subst, Option, Some, None}
+use Rattle.std.proofs.Common.{refl, IfOk, ◌≡◌, ℕ, max, List, [], ◌∷◌, ◌++◌, ap, sym, ◌∙◌, subst, Option, Some, None}
 use Rattle.std.specs.Option.{option_map}
 use Rattle.std.specs.Prelude.{Result, Ok, Err, codes}
 use Rattle.pd_types.specs.declared.memory.NoMemory.{NoMemory}

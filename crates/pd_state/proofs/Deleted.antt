@@ -1,5 +1,5 @@
 -- What a command of pd-ctl leaves of a store's state: it is as it was, or Offline, where the command deletes the store and it was no tombstone.
-use Rattle.std.proofs.Common.{refl, ◌≡◌, ◌≢◌, ℕ, Bool, true, false, cond, nat_eq, List, [], ◌∷◌, ap, sym, ◌∙◌, subst, Option, Some, None, ◌⊎◌, inl, inr}
+use Rattle.std.proofs.Common.{refl, ◌≡◌, ℕ, Bool, true, false, cond, nat_eq, List, [], ◌∷◌, ap, sym, ◌∙◌, subst, Option, Some, None, ◌⊎◌, inl, inr}
 use Rattle.std.specs.Option.{option_map}
 use Rattle.std.specs.Prelude.{Result, Ok, Err}
 use Rattle.pd_types.proofs.Numbers.{other_number, same_number}

@@ -1,5 +1,5 @@
 -- How many calls a request makes at most.
-use Rattle.std.proofs.Common.{refl, ◌≡◌, ℕ, ◌+◌, ◌≤◌, ◌<◌, Bool, true, false, cond, nat_eq, subst, List, [], ◌∷◌, ◌++◌, length, length-append, map, Option, Some, None, arith}
+use Rattle.std.proofs.Common.{ap, refl, ◌≡◌, ℕ, ◌+◌, ◌≤◌, ◌<◌, Bool, true, false, cond, nat_eq, subst, List, [], ◌∷◌, ◌++◌, length, length-append, map, Option, Some, None, arith}
 use Rattle.std.specs.Prelude.{Result, Ok, Err, codes, filter, filter_map}
 use Rattle.std.specs.Option.{option_map_or}
 use Rattle.pd_types.specs.declared.region.Peer.{Peer}
@@ -52,7 +52,7 @@ use Rattle.pd_state.specs.declared.part.Part.{Part}
 use Rattle.pd_state.specs.declared.patrol.Planned.{Planned}
 use Rattle.pd_state.specs.declared.reply.Reply.{Reply}
 use Rattle.pd_state.specs.declared.reply.Reply.TheVariants as replies
-use Rattle.pd_state.proofs.CallLemmas.{rule_few, two_calls, unless_few, unrule_few}
+use Rattle.pd_state.proofs.CallLemmas.{no_calls, rule_few, two_calls, unless_few, unrule_few}
 
 -- an asking that came here heard so many answers at most
 abbrev Within : {A : Type 0} → ℕ → Hearing → Point A → Type 0
@@ -316,33 +316,14 @@ takes_few A n asking known answers t asked =
     omega (arith, all)
 
 pub few_answers : (part : Option Part) (request : Request) (said : List Said) (answers : List MetaAnswer) → AreAsked (next_call part request said) [] answers → length answers ≤ most_calls part request
-few_answers None (ask.Check moment region) said [] asked = omega arith
-few_answers None (ask.Check moment region) said (a ∷ answers) asked = absurd (let h = asked.0 in cc)
-few_answers None (ask.Patrol moment workers) said [] asked = omega arith
-few_answers None (ask.Patrol moment workers) said (a ∷ answers) asked = absurd (let h = asked.0 in cc)
-few_answers None (ask.Schedule moment) said [] asked = omega arith
-few_answers None (ask.Schedule moment) said (a ∷ answers) asked = absurd (let h = asked.0 in cc)
-few_answers None (ask.Ctl moment words) said [] asked = omega arith
-few_answers None (ask.Ctl moment words) said (a ∷ answers) asked = absurd (let h = asked.0 in cc)
 few_answers (Some part) (ask.Check moment region) said answers asked =
     takes_few Deed _ (check_of part moment region) part.known answers (held_few (around_at part moment) (planning_of part) (region_in region part.standing)) asked
 few_answers (Some part) (ask.Patrol moment workers) said answers asked = takes_few Deed _ (patrol_of part moment) part.known answers (patrol_few part moment) asked
 few_answers (Some part) (ask.Schedule moment) said answers asked = takes_few Deed _ (schedule_of part moment said) part.known answers (schedule_few (around_at part moment) (planning_of part) said) asked
 few_answers (Some part) (ask.Ctl moment words) said answers asked = takes_few Deed _ (ctl_of part moment words) part.known answers (words_few (around_at part moment) (planning_of part) (command_told words)) asked
 few_answers None (ask.Term term moment) said answers asked = two_calls None (ask.Term term moment) said answers tt asked
-few_answers None ask.Retire said answers asked = two_calls None ask.Retire said answers tt asked
-few_answers None (ask.Hello store moment address labels) said answers asked = two_calls None (ask.Hello store moment address labels) said answers tt asked
-few_answers None (ask.Alive store moment) said answers asked = two_calls None (ask.Alive store moment) said answers tt asked
-few_answers None (ask.Beat store moment beat) said answers asked = two_calls None (ask.Beat store moment beat) said answers tt asked
-few_answers None (ask.Rule moment json) said answers asked = two_calls None (ask.Rule moment json) said answers tt asked
-few_answers None (ask.Unrule moment group id) said answers asked = two_calls None (ask.Unrule moment group id) said answers tt asked
-few_answers (Some part) (ask.Term term moment) said answers asked = two_calls (Some part) (ask.Term term moment) said answers tt asked
-few_answers (Some part) ask.Retire said answers asked = two_calls (Some part) ask.Retire said answers tt asked
-few_answers (Some part) (ask.Hello store moment address labels) said answers asked = two_calls (Some part) (ask.Hello store moment address labels) said answers tt asked
-few_answers (Some part) (ask.Alive store moment) said answers asked = two_calls (Some part) (ask.Alive store moment) said answers tt asked
-few_answers (Some part) (ask.Beat store moment beat) said answers asked = two_calls (Some part) (ask.Beat store moment beat) said answers tt asked
-few_answers (Some part) (ask.Rule moment json) said answers asked = two_calls (Some part) (ask.Rule moment json) said answers tt asked
-few_answers (Some part) (ask.Unrule moment group id) said answers asked = two_calls (Some part) (ask.Unrule moment group id) said answers tt asked
+few_answers None _ said answers asked = omega (arith, ap length (no_calls answers asked))
+few_answers (Some part) request said answers asked = two_calls (Some part) request said answers tt asked
 
 -- a call comes only behind so few answers
 turn_low : (calls : List MetaCall) (before : List MetaAnswer) (call : MetaCall) → in_turn calls before ≡ Some call → length before < length calls
@@ -356,24 +337,11 @@ turn_low (one ∷ calls) (answer ∷ before) call is = by (is_accepted answer.ve
 
 pub waits_few : (part : Option Part) (request : Request) (said : List Said) (before : List MetaAnswer) (call : MetaCall) → next_call part request said before ≡ Some call → length before < most_calls part request
 waits_few None (ask.Term term moment) said before call is = let low = turn_low (calls.Lead term ∷ []) before call is in omega (arith, low)
-waits_few None ask.Retire said before call is = absurd cc
-waits_few None (ask.Hello store moment address labels) said before call is = absurd cc
-waits_few None (ask.Alive store moment) said before call is = absurd cc
-waits_few None (ask.Beat store moment beat) said before call is = absurd cc
-waits_few None (ask.Rule moment json) said before call is = absurd cc
-waits_few None (ask.Unrule moment group id) said before call is = absurd cc
-waits_few None (ask.Check moment region) said before call is = absurd cc
-waits_few None (ask.Patrol moment workers) said before call is = absurd cc
-waits_few None (ask.Schedule moment) said before call is = absurd cc
-waits_few None (ask.Ctl moment words) said before call is = absurd cc
 waits_few (Some part) (ask.Term term moment) said before call is = let low = turn_low (calls.Lead term ∷ []) before call is in omega (arith, low)
-waits_few (Some part) ask.Retire said before call is = absurd cc
 waits_few (Some part) (ask.Hello store moment address labels) said before call is =
     let low = turn_low (hello_calls part store address labels) before call is in
     let one = unless_few (hello_refusal (state_at store part.stores) (length part.stores)) (put_call part (store_key store) (store_bytes (greeted_record part store address labels))) in
     omega (arith, low, one)
-waits_few (Some part) (ask.Alive store moment) said before call is = absurd cc
-waits_few (Some part) (ask.Beat store moment beat) said before call is = absurd cc
 waits_few (Some part) (ask.Rule moment json) said before call is =
     let low = turn_low (rule_calls part (rule_told json)) before call is in
     let two = rule_few part (rule_told json) in
@@ -390,3 +358,4 @@ waits_few (Some part) (ask.Schedule moment) said before call is =
     waits_low Deed _ (hearing part.known before) (schedule_of part moment said (hearing part.known before)) call (schedule_few (around_at part moment) (planning_of part) said (hearing part.known before)) is
 waits_few (Some part) (ask.Ctl moment words) said before call is =
     waits_low Deed _ (hearing part.known before) (ctl_of part moment words (hearing part.known before)) call (words_few (around_at part moment) (planning_of part) (command_told words) (hearing part.known before)) is
+waits_few _ _ said before call is = absurd cc

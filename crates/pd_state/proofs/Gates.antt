@@ -345,12 +345,7 @@ safe_by driver e es (ask.Schedule moment) after asked table said is =
 safe_by driver e es (ask.Ctl moment words) after asked table said is =
     subst (λ (held : List RegionBeat). AreSafe held (part_of es).stores (max (clock_of es) moment) (deed_of (ctl_of (part_of es) moment words) (part_of es) moment e.answers).sents)
     (sym (after_is e es (ask.Ctl moment words) after asked (goes_on (resigns words) (e ∷ es) after is))) (commanded_safe (part_of es) moment words e.answers)
-safe_by driver e es (ask.Term term moment) after asked table said is = tt
-safe_by driver e es ask.Retire after asked table said is = tt
-safe_by driver e es (ask.Hello store moment address labels) after asked table said is = tt
-safe_by driver e es (ask.Alive store moment) after asked table said is = tt
-safe_by driver e es (ask.Rule moment json) after asked table said is = tt
-safe_by driver e es (ask.Unrule moment group id) after asked table said is = tt
+safe_by driver e es _ after asked table said is = tt
 
 messages_safe : (before after : Part) (now driver term entry : ℕ) (sents : List Sent) → AreSafe after.standing before.stores now sents → All (IsSafeThere before after now) (map (message driver term entry) sents)
 messages_safe before after now driver term entry [] h = All-nil (IsSafeThere before after now)

@@ -17,69 +17,11 @@ heard_other store at moment before other = rw (ne_eqb store at (λ same. other (
 
 pub alive_refused : (reply : Reply) (store at moment : ℕ) (before : Option ℕ) → reply ≢ replies.Alive → alive_by reply store at moment before ≡ before
 alive_refused replies.Alive store at moment before other = absurd (other refl)
-alive_refused (replies.BadRule fault) store at moment before other = refl
-alive_refused replies.RuleLimit store at moment before other = refl
-alive_refused replies.RulePut store at moment before other = refl
-alive_refused replies.Absent store at moment before other = refl
-alive_refused replies.LastRule store at moment before other = refl
-alive_refused replies.RuleRemoved store at moment before other = refl
-alive_refused (replies.OldTerm fence) store at moment before other = refl
-alive_refused (replies.Conflict found) store at moment before other = refl
-alive_refused replies.MetaLimit store at moment before other = refl
-alive_refused (replies.Term term stores rules) store at moment before other = refl
-alive_refused replies.Retired store at moment before other = refl
-alive_refused replies.StorePut store at moment before other = refl
-alive_refused replies.Tombstone store at moment before other = refl
-alive_refused replies.Limit store at moment before other = refl
-alive_refused replies.UnknownStore store at moment before other = refl
-alive_refused (replies.Bad fault) store at moment before other = refl
-alive_refused (replies.Stale kept) store at moment before other = refl
-alive_refused replies.Full store at moment before other = refl
-alive_refused (replies.Accepted removed answer) store at moment before other = refl
-alive_refused replies.NotLeading store at moment before other = refl
-alive_refused replies.NoRegion store at moment before other = refl
-alive_refused (replies.NeedsSplit key) store at moment before other = refl
-alive_refused replies.NoFault store at moment before other = refl
-alive_refused (replies.Plan class from to came) store at moment before other = refl
-alive_refused (replies.NoPlan from) store at moment before other = refl
-alive_refused (replies.Patrolled regions ok split plan no_plan added buried) store at moment before other = refl
-alive_refused replies.NoScheduler store at moment before other = refl
-alive_refused (replies.Silent name) store at moment before other = refl
-alive_refused (replies.Proposed name proposal came) store at moment before other = refl
-alive_refused (replies.Report json) store at moment before other = refl
+alive_refused _ store at moment before other = refl
 
 pub hello_refused : (reply : Reply) (store at moment : ℕ) (before : Option ℕ) → reply ≢ replies.StorePut → hello_by reply store at moment before ≡ before
 hello_refused replies.StorePut store at moment before other = absurd (other refl)
-hello_refused (replies.BadRule fault) store at moment before other = refl
-hello_refused replies.RuleLimit store at moment before other = refl
-hello_refused replies.RulePut store at moment before other = refl
-hello_refused replies.Absent store at moment before other = refl
-hello_refused replies.LastRule store at moment before other = refl
-hello_refused replies.RuleRemoved store at moment before other = refl
-hello_refused (replies.OldTerm fence) store at moment before other = refl
-hello_refused (replies.Conflict found) store at moment before other = refl
-hello_refused replies.MetaLimit store at moment before other = refl
-hello_refused (replies.Term term stores rules) store at moment before other = refl
-hello_refused replies.Retired store at moment before other = refl
-hello_refused replies.Alive store at moment before other = refl
-hello_refused replies.Tombstone store at moment before other = refl
-hello_refused replies.Limit store at moment before other = refl
-hello_refused replies.UnknownStore store at moment before other = refl
-hello_refused (replies.Bad fault) store at moment before other = refl
-hello_refused (replies.Stale kept) store at moment before other = refl
-hello_refused replies.Full store at moment before other = refl
-hello_refused (replies.Accepted removed answer) store at moment before other = refl
-hello_refused replies.NotLeading store at moment before other = refl
-hello_refused replies.NoRegion store at moment before other = refl
-hello_refused (replies.NeedsSplit key) store at moment before other = refl
-hello_refused replies.NoFault store at moment before other = refl
-hello_refused (replies.Plan class from to came) store at moment before other = refl
-hello_refused (replies.NoPlan from) store at moment before other = refl
-hello_refused (replies.Patrolled regions ok split plan no_plan added buried) store at moment before other = refl
-hello_refused replies.NoScheduler store at moment before other = refl
-hello_refused (replies.Silent name) store at moment before other = refl
-hello_refused (replies.Proposed name proposal came) store at moment before other = refl
-hello_refused (replies.Report json) store at moment before other = refl
+hello_refused _ store at moment before other = refl
 
 -- each store's silence is counted from the beginning of the term
 pub began_alike : (entries : List Entry) → All (λ (store : StoreEntry). store.began ≡ began_of entries) (part_of entries).stores

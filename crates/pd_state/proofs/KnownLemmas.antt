@@ -97,24 +97,10 @@ part_one e (ask.Term term moment) s entries is rest h = begun_one e.reply h
     begun_one (replies.Term n a b) h = subst TermPart (cons_same e [] entries h) alone
     begun_one p h = absurd cc
 part_one e ask.Retire s entries is rest h = absurd cc
-part_one e (ask.Hello store moment address labels) None entries is rest h = absurd cc
-part_one e (ask.Alive store moment) None entries is rest h = absurd cc
-part_one e (ask.Beat store moment beat) None entries is rest h = absurd cc
-part_one e (ask.Rule moment json) None entries is rest h = absurd cc
-part_one e (ask.Unrule moment group id) None entries is rest h = absurd cc
-part_one e (ask.Check moment region) None entries is rest h = absurd cc
-part_one e (ask.Patrol moment workers) None entries is rest h = absurd cc
-part_one e (ask.Schedule moment) None entries is rest h = absurd cc
 part_one e (ask.Ctl moment words) None entries is rest h = absurd (no_part (resigns words) entries h)
-part_one e (ask.Hello store moment address labels) (Some fs) entries is rest h = subst TermPart (cons_same e fs entries h) (subst (λ (r : Request). part_by r fs (TermPart fs)) (sym is) (rest fs refl))
-part_one e (ask.Alive store moment) (Some fs) entries is rest h = subst TermPart (cons_same e fs entries h) (subst (λ (r : Request). part_by r fs (TermPart fs)) (sym is) (rest fs refl))
-part_one e (ask.Beat store moment beat) (Some fs) entries is rest h = subst TermPart (cons_same e fs entries h) (subst (λ (r : Request). part_by r fs (TermPart fs)) (sym is) (rest fs refl))
-part_one e (ask.Rule moment json) (Some fs) entries is rest h = subst TermPart (cons_same e fs entries h) (subst (λ (r : Request). part_by r fs (TermPart fs)) (sym is) (rest fs refl))
-part_one e (ask.Unrule moment group id) (Some fs) entries is rest h = subst TermPart (cons_same e fs entries h) (subst (λ (r : Request). part_by r fs (TermPart fs)) (sym is) (rest fs refl))
-part_one e (ask.Check moment region) (Some fs) entries is rest h = subst TermPart (cons_same e fs entries h) (subst (λ (r : Request). part_by r fs (TermPart fs)) (sym is) (rest fs refl))
-part_one e (ask.Patrol moment workers) (Some fs) entries is rest h = subst TermPart (cons_same e fs entries h) (subst (λ (r : Request). part_by r fs (TermPart fs)) (sym is) (rest fs refl))
-part_one e (ask.Schedule moment) (Some fs) entries is rest h = subst TermPart (cons_same e fs entries h) (subst (λ (r : Request). part_by r fs (TermPart fs)) (sym is) (rest fs refl))
 part_one e (ask.Ctl moment words) (Some fs) entries is rest h = subst TermPart (cons_same e fs entries (goes_on (resigns words) e fs entries h)) (subst (λ (r : Request). part_by r fs (TermPart fs)) (sym is) (rest fs refl))
+part_one e _ None entries is rest h = absurd cc
+part_one e _ (Some fs) entries is rest h = subst TermPart (cons_same e fs entries h) (subst (λ (r : Request). part_by r fs (TermPart fs)) (sym is) (rest fs refl))
 
 pub term_part : (past entries : List Entry) → since past ≡ Some entries → TermPart entries
 term_part [] entries h = absurd cc
@@ -165,15 +151,9 @@ known_one : (r : Request) (e : Entry) (entries : List Entry) (store : ℕ) → p
 known_one (ask.Term term moment) e entries store part rest = ap (λ (es : List Entry). list_any (is_hello store) es || is_some (record_at store (stores_told (handed_out e.answers)))) (sym part)
 known_one (ask.Hello at moment address labels) e entries store part rest =
     hello_knows e.reply at moment address labels (records_of entries) store _ (rest part) ∙ or_twice (where_put e.reply (nat_eq at store)) (list_any (is_hello store) entries) (is_some (record_at store (stores_told (handed_to entries))))
-known_one ask.Retire e entries store part rest = rest part
-known_one (ask.Alive at moment) e entries store part rest = rest part
-known_one (ask.Beat at moment beat) e entries store part rest = rest part
-known_one (ask.Rule moment json) e entries store part rest = rest part
-known_one (ask.Unrule moment group id) e entries store part rest = rest part
-known_one (ask.Check moment region) e entries store part rest = rest part
 known_one (ask.Patrol moment workers) e entries store part rest = known_patrol entries moment store e.answers ∙ rest part
-known_one (ask.Schedule moment) e entries store part rest = rest part
 known_one (ask.Ctl moment words) e entries store part rest = known_ctl entries moment store words e.answers ∙ rest part
+known_one _ e entries store part rest = rest part
 
 known_all : (entries : List Entry) → TermPart entries → (store : ℕ) → is_some (record_at store (records_of entries)) ≡ list_any (is_hello store) entries || is_some (record_at store (stores_told (handed_to entries)))
 known_all [] part store = absurd part
@@ -281,28 +261,16 @@ told_one (ask.Term term moment) e entries asked part rest store rec found = inr 
   labels = refl;
 })
 told_one (ask.Hello at moment address labels) e entries asked part rest store rec found = told_hello e entries at moment address labels e.reply asked refl (rest part) store rec found
-told_one ask.Retire e entries asked part rest store rec found =
-    told_before e entries store rec (ap (λ (r : Request). greets store r e.reply) asked) (ap (λ (r : Request). begun_with r (handed_out e.answers) (handed_to entries)) asked) (rest part store rec found)
-told_one (ask.Alive at moment) e entries asked part rest store rec found =
-    told_before e entries store rec (ap (λ (r : Request). greets store r e.reply) asked) (ap (λ (r : Request). begun_with r (handed_out e.answers) (handed_to entries)) asked) (rest part store rec found)
-told_one (ask.Beat at moment beat) e entries asked part rest store rec found =
-    told_before e entries store rec (ap (λ (r : Request). greets store r e.reply) asked) (ap (λ (r : Request). begun_with r (handed_out e.answers) (handed_to entries)) asked) (rest part store rec found)
-told_one (ask.Rule moment json) e entries asked part rest store rec found =
-    told_before e entries store rec (ap (λ (r : Request). greets store r e.reply) asked) (ap (λ (r : Request). begun_with r (handed_out e.answers) (handed_to entries)) asked) (rest part store rec found)
-told_one (ask.Unrule moment group id) e entries asked part rest store rec found =
-    told_before e entries store rec (ap (λ (r : Request). greets store r e.reply) asked) (ap (λ (r : Request). begun_with r (handed_out e.answers) (handed_to entries)) asked) (rest part store rec found)
-told_one (ask.Check moment region) e entries asked part rest store rec found =
-    told_before e entries store rec (ap (λ (r : Request). greets store r e.reply) asked) (ap (λ (r : Request). begun_with r (handed_out e.answers) (handed_to entries)) asked) (rest part store rec found)
 told_one (ask.Patrol moment workers) e entries asked part rest store rec found =
     let was = record_before Tombstone entries store (records_of entries) _ rec (deed_buried entries moment e.answers) found in
     told_again (e ∷ entries) store was.0 rec was.2 was.3
     (told_before e entries store was.0 (ap (λ (r : Request). greets store r e.reply) asked) (ap (λ (r : Request). begun_with r (handed_out e.answers) (handed_to entries)) asked) (rest part store was.0 was.1))
-told_one (ask.Schedule moment) e entries asked part rest store rec found =
-    told_before e entries store rec (ap (λ (r : Request). greets store r e.reply) asked) (ap (λ (r : Request). begun_with r (handed_out e.answers) (handed_to entries)) asked) (rest part store rec found)
 told_one (ask.Ctl moment words) e entries asked part rest store rec found =
     let was = record_before Offline entries store (records_of entries) _ rec (deed_deleted entries moment words e.answers) found in
     told_again (e ∷ entries) store was.0 rec was.2 was.3
     (told_before e entries store was.0 (ap (λ (r : Request). greets store r e.reply) asked) (ap (λ (r : Request). begun_with r (handed_out e.answers) (handed_to entries)) asked) (rest part store was.0 was.1))
+told_one _ e entries asked part rest store rec found =
+    told_before e entries store rec (ap (λ (r : Request). greets store r e.reply) asked) (ap (λ (r : Request). begun_with r (handed_out e.answers) (handed_to entries)) asked) (rest part store rec found)
 
 told_all : (entries : List Entry) → TermPart entries → ToldAll entries
 told_all [] part = absurd part
@@ -357,16 +325,10 @@ entombed_one : (r : Request) (e : Entry) (entries : List Entry) → part_by r en
     → is_some (record_at store (records_by r e.reply (heard_of e) (part_of entries) (records_of entries))) ≡ false → entombs store r (heard_of e) (part_of entries) || is_entombed store entries ≡ false
 entombed_one (ask.Term term moment) e entries part rest store none = ap (λ (es : List Entry). is_entombed store es) part
 entombed_one (ask.Hello at moment address labels) e entries part rest store none = rest part store (hello_none e.reply at moment address labels (records_of entries) store none)
-entombed_one ask.Retire e entries part rest store none = rest part store none
-entombed_one (ask.Alive at moment) e entries part rest store none = rest part store none
-entombed_one (ask.Beat at moment beat) e entries part rest store none = rest part store none
-entombed_one (ask.Rule moment json) e entries part rest store none = rest part store none
-entombed_one (ask.Unrule moment group id) e entries part rest store none = rest part store none
-entombed_one (ask.Check moment region) e entries part rest store none = rest part store none
-entombed_one (ask.Schedule moment) e entries part rest store none = rest part store none
 entombed_one (ask.Ctl moment words) e entries part rest store none = rest part store (sym (known_ctl entries moment store words e.answers) ∙ none)
 entombed_one (ask.Patrol moment workers) e entries part rest store none =
     either_false _ (is_entombed store entries) (no_tomb (deed_of (patrol_of (part_of entries) moment) (part_of entries) moment e.answers).stores store none) (rest part store (sym (known_patrol entries moment store e.answers) ∙ none))
+entombed_one _ e entries part rest store none = rest part store none
 
 entombed_all : (entries : List Entry) → TermPart entries → Entombed entries
 entombed_all [] part = absurd part
@@ -394,17 +356,11 @@ deleted_one : (r : Request) (e : Entry) (entries : List Entry) → part_by r ent
     → is_some (record_at store (records_by r e.reply (heard_of e) (part_of entries) (records_of entries))) ≡ false → deletes store r (heard_of e) (part_of entries) || is_deleted store entries ≡ false
 deleted_one (ask.Term term moment) e entries part rest store none = ap (λ (es : List Entry). is_deleted store es) part
 deleted_one (ask.Hello at moment address labels) e entries part rest store none = rest part store (hello_none e.reply at moment address labels (records_of entries) store none)
-deleted_one ask.Retire e entries part rest store none = rest part store none
-deleted_one (ask.Alive at moment) e entries part rest store none = rest part store none
-deleted_one (ask.Beat at moment beat) e entries part rest store none = rest part store none
-deleted_one (ask.Rule moment json) e entries part rest store none = rest part store none
-deleted_one (ask.Unrule moment group id) e entries part rest store none = rest part store none
-deleted_one (ask.Check moment region) e entries part rest store none = rest part store none
-deleted_one (ask.Schedule moment) e entries part rest store none = rest part store none
 deleted_one (ask.Patrol moment workers) e entries part rest store none = rest part store (sym (known_patrol entries moment store e.answers) ∙ none)
 deleted_one (ask.Ctl moment words) e entries part rest store none =
     either_false _ (is_deleted store entries) (both_false (names_store store (command_told words)) _ (no_offline (deed_of (ctl_of (part_of entries) moment words) (part_of entries) moment e.answers).stores store none))
     (rest part store (sym (known_ctl entries moment store words e.answers) ∙ none))
+deleted_one _ e entries part rest store none = rest part store none
 
 deleted_all : (entries : List Entry) → TermPart entries → Deleted entries
 deleted_all [] part = absurd part
@@ -495,15 +451,9 @@ state_one : (r : Request) (e : Entry) (entries : List Entry) → part_by r entri
 state_one (ask.Term term moment) e entries part rest store rec found =
     ap state_or_up (sym found) ∙ ap (λ (es : List Entry). state_now (is_entombed store es) (is_deleted store es) (record_at store (stores_told (handed_out e.answers)))) (sym part)
 state_one (ask.Hello at moment address labels) e entries part rest store rec found = state_hello entries at moment address labels e.reply part (rest part) store rec found
-state_one ask.Retire e entries part rest store rec found = rest part store rec found
-state_one (ask.Alive at moment) e entries part rest store rec found = rest part store rec found
-state_one (ask.Beat at moment beat) e entries part rest store rec found = rest part store rec found
-state_one (ask.Rule moment json) e entries part rest store rec found = rest part store rec found
-state_one (ask.Unrule moment group id) e entries part rest store rec found = rest part store rec found
-state_one (ask.Check moment region) e entries part rest store rec found = rest part store rec found
-state_one (ask.Schedule moment) e entries part rest store rec found = rest part store rec found
 state_one (ask.Patrol moment workers) e entries part rest store rec found = state_patrol entries moment e.answers (rest part) store rec found
 state_one (ask.Ctl moment words) e entries part rest store rec found = state_ctl entries moment words e.answers (rest part) store rec found
+state_one _ e entries part rest store rec found = rest part store rec found
 
 state_all : (entries : List Entry) → TermPart entries → InState entries (handed_to entries)
 state_all [] part = absurd part

@@ -401,10 +401,7 @@ planned_lives (ask.Check moment region) p heard part goes = checked_lives part m
 planned_lives (ask.Patrol moment workers) p heard part goes = patrolled_lives part moment heard.answers
 planned_lives (ask.Schedule moment) p heard part goes = scheduled_lives part moment heard.bench heard.answers
 planned_lives (ask.Ctl moment words) p heard part goes = commanded_lives part moment words heard.answers
-planned_lives ask.Retire p heard part goes = table_same part.operators
-planned_lives (ask.Alive store moment) p heard part goes = table_same part.operators
-planned_lives (ask.Rule moment json) p heard part goes = table_same part.operators
-planned_lives (ask.Unrule moment group id) p heard part goes = table_same part.operators
+planned_lives _ p heard part goes = table_same part.operators
 
 some_part : (a b : Part) → Some a ≡ Some b → a ≡ b
 some_part a b h = cc
@@ -416,15 +413,8 @@ stays_on false es after is = is
 more_lives : (e : Entry) (es : List Entry) (r : Request) (after : Part) → GoesWith r → option_map part_of (since_by r e (Some es)) ≡ Some after → AreLives (part_of es).operators (part_of (e ∷ es)).operators → AreLives (part_of es).operators after.operators
 more_lives e es (ask.Term term moment) after goes is h = absurd goes
 more_lives e es ask.Retire after goes is h = absurd cc
-more_lives e es (ask.Hello store moment address labels) after goes is h = subst (λ (p : Part). AreLives (part_of es).operators p.operators) (some_part _ after is) h
-more_lives e es (ask.Alive store moment) after goes is h = subst (λ (p : Part). AreLives (part_of es).operators p.operators) (some_part _ after is) h
-more_lives e es (ask.Beat store moment beat) after goes is h = subst (λ (p : Part). AreLives (part_of es).operators p.operators) (some_part _ after is) h
-more_lives e es (ask.Rule moment json) after goes is h = subst (λ (p : Part). AreLives (part_of es).operators p.operators) (some_part _ after is) h
-more_lives e es (ask.Unrule moment group id) after goes is h = subst (λ (p : Part). AreLives (part_of es).operators p.operators) (some_part _ after is) h
-more_lives e es (ask.Check moment region) after goes is h = subst (λ (p : Part). AreLives (part_of es).operators p.operators) (some_part _ after is) h
-more_lives e es (ask.Patrol moment workers) after goes is h = subst (λ (p : Part). AreLives (part_of es).operators p.operators) (some_part _ after is) h
-more_lives e es (ask.Schedule moment) after goes is h = subst (λ (p : Part). AreLives (part_of es).operators p.operators) (some_part _ after is) h
 more_lives e es (ask.Ctl moment words) after goes is h = subst (λ (p : Part). AreLives (part_of es).operators p.operators) (some_part _ after (stays_on (resigns words) (e ∷ es) after is)) h
+more_lives e es _ after goes is h = subst (λ (p : Part). AreLives (part_of es).operators p.operators) (some_part _ after is) h
 
 since_lives : (s : Option (List Entry)) (e : Entry) → GoesWith e.request → (before after : Part) → option_map part_of s ≡ Some before → option_map part_of (since_by e.request e s) ≡ Some after → AreLives before.operators after.operators
 since_lives None e goes before after was is = absurd cc

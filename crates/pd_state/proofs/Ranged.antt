@@ -54,25 +54,12 @@ ranged_more : (driver : ℕ) (s : Option (List Entry)) (actor : Actor) (sends : 
 ranged_more driver s actor sends line (ask.Term term moment) known (replies.Term t n m) ranged is fs h = some_is _ fs h (All-nil HasRange)
 ranged_more driver s actor sends line (ask.Term term moment) known p ranged is fs h = absurd cc
 ranged_more driver s actor sends line ask.Retire known p ranged is fs h = absurd cc
-ranged_more driver None actor sends line (ask.Hello store moment address labels) known p ranged is fs h = absurd cc
-ranged_more driver None actor sends line (ask.Alive store moment) known p ranged is fs h = absurd cc
-ranged_more driver None actor sends line (ask.Beat store moment beat) known p ranged is fs h = absurd cc
-ranged_more driver (Some es) actor sends line (ask.Hello store moment address labels) known p ranged is fs h = some_is _ fs h (ranged es refl)
-ranged_more driver (Some es) actor sends line (ask.Alive store moment) known p ranged is fs h = some_is _ fs h (ranged es refl)
 ranged_more driver (Some es) actor sends line (ask.Beat store moment beat) known p ranged is fs h =
     some_is (entry_of actor sends line (ask.Beat store moment beat) known p ∷ es) fs h (ranged_beat (beats_of es) beat (beat_dispatch (part_of es) moment beat) p is (ranged es refl))
-ranged_more driver None actor sends line (ask.Rule moment json) known p ranged is fs h = absurd cc
-ranged_more driver None actor sends line (ask.Unrule moment group id) known p ranged is fs h = absurd cc
-ranged_more driver None actor sends line (ask.Check moment region) known p ranged is fs h = absurd cc
-ranged_more driver None actor sends line (ask.Patrol moment workers) known p ranged is fs h = absurd cc
-ranged_more driver None actor sends line (ask.Schedule moment) known p ranged is fs h = absurd cc
 ranged_more driver None actor sends line (ask.Ctl moment words) known p ranged is fs h = ranged_none (resigns words) fs h
-ranged_more driver (Some es) actor sends line (ask.Rule moment json) known p ranged is fs h = some_is _ fs h (ranged es refl)
-ranged_more driver (Some es) actor sends line (ask.Unrule moment group id) known p ranged is fs h = some_is _ fs h (ranged es refl)
-ranged_more driver (Some es) actor sends line (ask.Check moment region) known p ranged is fs h = some_is _ fs h (ranged es refl)
-ranged_more driver (Some es) actor sends line (ask.Patrol moment workers) known p ranged is fs h = some_is _ fs h (ranged es refl)
-ranged_more driver (Some es) actor sends line (ask.Schedule moment) known p ranged is fs h = some_is _ fs h (ranged es refl)
 ranged_more driver (Some es) actor sends line (ask.Ctl moment words) known p ranged is fs h = ranged_kept (resigns words) _ fs h (ranged es refl)
+ranged_more driver None actor sends line _ known p ranged is fs h = absurd cc
+ranged_more driver (Some es) actor sends line _ known p ranged is fs h = some_is _ fs h (ranged es refl)
 
 ranged_after : (driver : ℕ) (past : List Entry) → IsLegal driver past → (es : List Entry) → since past ≡ Some es → AreRanged es
 ranged_after driver [] legal es h = absurd cc

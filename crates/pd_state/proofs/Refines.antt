@@ -40,12 +40,12 @@ use Rattle.pd_state.specs.HandedOut.{record_at}
 use Rattle.pd_state.specs.Heard.{answers_of, heard_of, known_after, known_more}
 use Rattle.pd_state.specs.Replies.{alive_reply}
 use Rattle.pd_state.specs.Since.{begun, since_by, since}
-use Rattle.pd_state.specs.State.{clock_of, term_of, began_of, accepted_by, beats_of, heard, heartbeat, greeting, kept_state, greeted_by, moment_of, records_of, removed_by, rules_of, set_by, store_of, part_of, part_after, planned_beat, planned_by, planned_hello}
+use Rattle.pd_state.specs.State.{clock_of, term_by, term_of, began_by, began_of, accepted_by, beats_by, beats_of, heard, heartbeat, greeting, kept_state, greeted_by, moment_of, records_of, removed_by, rules_by, rules_of, set_by, store_of, part_of, part_after, planned_beat, planned_by, planned_hello}
 use Rattle.pd_state.specs.Legal.{first_reply, IsLegalAfter, IsLegal, sents_by, term_in}
 use Rattle.pd_state.specs.Sends.{message}
 use Rattle.pd_state.specs.declared.sent.Sent.{Sent}
 use Rattle.pd_state.specs.Clusters.{is_refused, refused_by, refuses, with_clock}
-use Rattle.pd_state.specs.Steps.{begun_part, greeted, put_after, heard_after, beat_after, changed_part, new_part, stepped}
+use Rattle.pd_state.specs.Steps.{begun_part, greeted, put_after, heard_after, beat_after, changed_part, new_part, rules_after, standing_after, stepped, stores_after}
 use Rattle.pd_state.proofs.Refusals.{kept_greeted, kept_id}
 use Rattle.pd_state.proofs.Rows.{entry_map, placed_map, unknown_before, found_id}
 
@@ -130,146 +130,34 @@ written o rec began moment entries is =
     ap (λ (n : ℕ). greeted (entry_at n entries) (kept_state (option_map (λ (e : StoreEntry). e.store) o) rec) began moment) (kept_id (option_map (λ (e : StoreEntry). e.store) o) rec)
     ∙ ap (λ (p : Option StoreEntry). greeted p (kept_state (option_map (λ (e : StoreEntry). e.store) o) rec) began moment) (sym is) ∙ kept_greeted o rec began moment
 
-after_hello : (es : List Entry) (actor : Actor) (sends : List StepMsg) (line store moment : ℕ) (address : List ℕ) (labels : List Label) (known : Heard) (p : Reply) → Silent es
-    → changed_part (part_of es) (ask.Hello store moment address labels) p known ≡ part_of (hello_of actor sends line store moment address labels known p ∷ es)
-after_hello es actor sends line store moment address labels known p silent = λ i. record {
-  term = term_of es;
-  began = began_of es;
-  clock = max (clock_of es) moment;
-  standing = table_of (beats_of es);
-  stores = (ap (λ (e : StoreEntry). put_after p e (map (store_of es) (records_of es))) (written (entry_at store (map (store_of es) (records_of es))) (greeting store address labels) (began_of es) moment (map (store_of es) (records_of es)) refl)
-      ∙ rows_hello es actor sends line store moment address labels known p silent) i;
-  rules = rules_of es;
+-- what a request makes of the tables is what its entry then says, where it is so of the term, the stores, the regions and the rules
+after_by : (es : List Entry) (actor : Actor) (sends : List StepMsg) (line : ℕ) (r : Request) (known : Heard) (p : Reply) → term_of es ≡ term_by r (term_of es) → began_of es ≡ began_by r (began_of es)
+    → stores_after r p known (part_of es) (began_of es) (part_of es).stores ≡ (part_of (entry_of actor sends line r known p ∷ es)).stores
+    → standing_after r p (table_of (beats_of es)) ≡ table_of (beats_by r p (beats_of es)) → rules_after r p (rules_of es) ≡ rules_by r p known (rules_of es)
+    → changed_part (part_of es) r p known ≡ part_of (entry_of actor sends line r known p ∷ es)
+after_by es actor sends line r known p term began stores standing rules = λ i. record {
+  term = term i;
+  began = began i;
+  clock = max (clock_of es) (moment_of r);
+  stores = stores i;
+  standing = standing i;
+  rules = rules i;
   known = known_is known.answers (answers_of es) i;
-  operators = (planned_by (ask.Hello store moment address labels) p known (part_of es)).operators;
-  limits = (planned_by (ask.Hello store moment address labels) p known (part_of es)).limits;
-  window = (planned_by (ask.Hello store moment address labels) p known (part_of es)).window;
+  operators = (planned_by r p known (part_of es)).operators;
+  limits = (planned_by r p known (part_of es)).limits;
+  window = (planned_by r p known (part_of es)).window;
 }
 
-after_alive : (es : List Entry) (actor : Actor) (sends : List StepMsg) (line store moment : ℕ) (known : Heard) (p : Reply)
-    → changed_part (part_of es) (ask.Alive store moment) p known ≡ part_of (entry_of actor sends line (ask.Alive store moment) known p ∷ es)
-after_alive es actor sends line store moment known p = λ i. record {
-  term = term_of es;
-  began = began_of es;
-  clock = max (clock_of es) moment;
-  standing = table_of (beats_of es);
-  stores = rows_alive es actor sends line store moment known p i;
-  rules = rules_of es;
-  known = known_is known.answers (answers_of es) i;
-  operators = (planned_by (ask.Alive store moment) p known (part_of es)).operators;
-  limits = (planned_by (ask.Alive store moment) p known (part_of es)).limits;
-  window = (planned_by (ask.Alive store moment) p known (part_of es)).window;
-}
-
-after_beat : (es : List Entry) (actor : Actor) (sends : List StepMsg) (line store moment : ℕ) (beat : RegionBeat) (known : Heard) (p : Reply)
-    → changed_part (part_of es) (ask.Beat store moment beat) p known ≡ part_of (entry_of actor sends line (ask.Beat store moment beat) known p ∷ es)
-after_beat es actor sends line store moment beat known p = λ i. record {
-  term = term_of es;
-  began = began_of es;
-  clock = max (clock_of es) moment;
-  stores = map (store_of es) (records_of es);
-  standing = regions_is (beats_of es) beat p i;
-  rules = rules_of es;
-  known = known_is known.answers (answers_of es) i;
-  operators = (planned_by (ask.Beat store moment beat) p known (part_of es)).operators;
-  limits = (planned_by (ask.Beat store moment beat) p known (part_of es)).limits;
-  window = (planned_by (ask.Beat store moment beat) p known (part_of es)).window;
-}
-
-after_rule : (es : List Entry) (actor : Actor) (sends : List StepMsg) (line moment : ℕ) (json : List ℕ) (known : Heard) (p : Reply)
-    → changed_part (part_of es) (ask.Rule moment json) p known ≡ part_of (entry_of actor sends line (ask.Rule moment json) known p ∷ es)
-after_rule es actor sends line moment json known p = λ i. record {
-  term = term_of es;
-  began = began_of es;
-  clock = max (clock_of es) moment;
-  stores = map (store_of es) (records_of es);
-  standing = table_of (beats_of es);
-  rules = set_by p (rule_told json) (rules_of es);
-  known = known_is known.answers (answers_of es) i;
-  operators = (planned_by (ask.Rule moment json) p known (part_of es)).operators;
-  limits = (planned_by (ask.Rule moment json) p known (part_of es)).limits;
-  window = (planned_by (ask.Rule moment json) p known (part_of es)).window;
-}
-
-after_unrule : (es : List Entry) (actor : Actor) (sends : List StepMsg) (line moment : ℕ) (group id : List ℕ) (known : Heard) (p : Reply)
-    → changed_part (part_of es) (ask.Unrule moment group id) p known ≡ part_of (entry_of actor sends line (ask.Unrule moment group id) known p ∷ es)
-after_unrule es actor sends line moment group id known p = λ i. record {
-  term = term_of es;
-  began = began_of es;
-  clock = max (clock_of es) moment;
-  stores = map (store_of es) (records_of es);
-  standing = table_of (beats_of es);
-  rules = removed_by p group id (rules_of es);
-  known = known_is known.answers (answers_of es) i;
-  operators = (planned_by (ask.Unrule moment group id) p known (part_of es)).operators;
-  limits = (planned_by (ask.Unrule moment group id) p known (part_of es)).limits;
-  window = (planned_by (ask.Unrule moment group id) p known (part_of es)).window;
-}
-
-after_check : (es : List Entry) (actor : Actor) (sends : List StepMsg) (line moment region : ℕ) (known : Heard) (p : Reply)
-    → changed_part (part_of es) (ask.Check moment region) p known ≡ part_of (entry_of actor sends line (ask.Check moment region) known p ∷ es)
-after_check es actor sends line moment region known p = λ i. record {
-  term = term_of es;
-  began = began_of es;
-  clock = max (clock_of es) moment;
-  stores = map (store_of es) (records_of es);
-  standing = table_of (beats_of es);
-  rules = rules_of es;
-  known = known_is known.answers (answers_of es) i;
-  operators = (planned_by (ask.Check moment region) p known (part_of es)).operators;
-  limits = (planned_by (ask.Check moment region) p known (part_of es)).limits;
-  window = (planned_by (ask.Check moment region) p known (part_of es)).window;
-}
+stores_hello : (es : List Entry) (actor : Actor) (sends : List StepMsg) (line store moment : ℕ) (address : List ℕ) (labels : List Label) (known : Heard) (p : Reply) → Silent es
+    → stores_after (ask.Hello store moment address labels) p known (part_of es) (began_of es) (part_of es).stores ≡ (part_of (hello_of actor sends line store moment address labels known p ∷ es)).stores
+stores_hello es actor sends line store moment address labels known p silent =
+    ap (λ (e : StoreEntry). put_after p e (map (store_of es) (records_of es))) (written (entry_at store (map (store_of es) (records_of es))) (greeting store address labels) (began_of es) moment (map (store_of es) (records_of es)) refl)
+    ∙ rows_hello es actor sends line store moment address labels known p silent
 
 -- the records of entries that have what their records tell
 rows_again : (es : List Entry) (stores : List StoreEntry) → AreRows es stores → stores ≡ map (store_of es) (map (λ (entry : StoreEntry). entry.store) stores)
 rows_again es [] are = refl
 rows_again es (entry ∷ stores) are = λ i. are.0 i ∷ rows_again es stores are.1 i
-
-after_patrol : (es : List Entry) (actor : Actor) (sends : List StepMsg) (line moment workers : ℕ) (known : Heard) (p : Reply)
-    → changed_part (part_of es) (ask.Patrol moment workers) p known ≡ part_of (entry_of actor sends line (ask.Patrol moment workers) known p ∷ es)
-after_patrol es actor sends line moment workers known p = λ i. record {
-  term = term_of es;
-  began = began_of es;
-  clock = max (clock_of es) moment;
-  stores = rows_again es (deed_of (patrol_of (part_of es) moment) (part_of es) moment known.answers).stores (patrol_rows es moment known.answers) i;
-  standing = table_of (beats_of es);
-  rules = rules_of es;
-  known = known_is known.answers (answers_of es) i;
-  operators = (planned_by (ask.Patrol moment workers) p known (part_of es)).operators;
-  limits = (planned_by (ask.Patrol moment workers) p known (part_of es)).limits;
-  window = (planned_by (ask.Patrol moment workers) p known (part_of es)).window;
-}
-
-after_schedule : (es : List Entry) (actor : Actor) (sends : List StepMsg) (line moment : ℕ) (known : Heard) (p : Reply)
-    → changed_part (part_of es) (ask.Schedule moment) p known ≡ part_of (entry_of actor sends line (ask.Schedule moment) known p ∷ es)
-after_schedule es actor sends line moment known p = λ i. record {
-  term = term_of es;
-  began = began_of es;
-  clock = max (clock_of es) moment;
-  stores = map (store_of es) (records_of es);
-  standing = table_of (beats_of es);
-  rules = rules_of es;
-  known = known_is known.answers (answers_of es) i;
-  operators = (planned_by (ask.Schedule moment) p known (part_of es)).operators;
-  limits = (planned_by (ask.Schedule moment) p known (part_of es)).limits;
-  window = (planned_by (ask.Schedule moment) p known (part_of es)).window;
-}
-
-after_ctl : (es : List Entry) (actor : Actor) (sends : List StepMsg) (line moment : ℕ) (words : List ℕ) (known : Heard) (p : Reply)
-    → changed_part (part_of es) (ask.Ctl moment words) p known ≡ part_of (entry_of actor sends line (ask.Ctl moment words) known p ∷ es)
-after_ctl es actor sends line moment words known p = λ i. record {
-  term = term_of es;
-  began = began_of es;
-  clock = max (clock_of es) moment;
-  stores = rows_again es (deed_of (ctl_of (part_of es) moment words) (part_of es) moment known.answers).stores (ctl_rows es moment words known.answers) i;
-  standing = table_of (beats_of es);
-  rules = rules_of es;
-  known = known_is known.answers (answers_of es) i;
-  operators = (planned_by (ask.Ctl moment words) p known (part_of es)).operators;
-  limits = (planned_by (ask.Ctl moment words) p known (part_of es)).limits;
-  window = (planned_by (ask.Ctl moment words) p known (part_of es)).window;
-}
 
 -- a command that gives the term up leaves none
 ctl_by : (t : Bool) (part : Part) (es : List Entry) → part ≡ part_of es → cond t None (Some part) ≡ option_map part_of (cond t None (Some es))
@@ -309,25 +197,16 @@ refines_by : (s : Option (List Entry)) (actor : Actor) (sends : List StepMsg) (l
     → stepped (option_map part_of s) r p known ≡ option_map part_of (since_by r (entry_of actor sends line r known p) s)
 refines_by s actor sends line (ask.Term term moment) known p silent = begins_by actor sends line term moment known p
 refines_by s actor sends line ask.Retire known p silent = refl
-refines_by None actor sends line (ask.Hello store moment address labels) known p silent = refl
-refines_by None actor sends line (ask.Alive store moment) known p silent = refl
-refines_by None actor sends line (ask.Beat store moment beat) known p silent = refl
-refines_by (Some es) actor sends line (ask.Hello store moment address labels) known p silent = ap Some (after_hello es actor sends line store moment address labels known p (silent es refl))
-refines_by (Some es) actor sends line (ask.Alive store moment) known p silent = ap Some (after_alive es actor sends line store moment known p)
-refines_by (Some es) actor sends line (ask.Beat store moment beat) known p silent = ap Some (after_beat es actor sends line store moment beat known p)
-refines_by None actor sends line (ask.Rule moment json) known p silent = refl
-refines_by None actor sends line (ask.Unrule moment group id) known p silent = refl
-refines_by None actor sends line (ask.Check moment region) known p silent = refl
-refines_by None actor sends line (ask.Patrol moment workers) known p silent = refl
-refines_by None actor sends line (ask.Schedule moment) known p silent = refl
+refines_by (Some es) actor sends line (ask.Hello store moment address labels) known p silent = ap Some (after_by es actor sends line (ask.Hello store moment address labels) known p refl refl (stores_hello es actor sends line store moment address labels known p (silent es refl)) refl refl)
+refines_by (Some es) actor sends line (ask.Alive store moment) known p silent = ap Some (after_by es actor sends line (ask.Alive store moment) known p refl refl (rows_alive es actor sends line store moment known p) refl refl)
+refines_by (Some es) actor sends line (ask.Beat store moment beat) known p silent = ap Some (after_by es actor sends line (ask.Beat store moment beat) known p refl refl refl (regions_is (beats_of es) beat p) refl)
 refines_by None actor sends line (ask.Ctl moment words) known p silent = none_by (resigns words)
-refines_by (Some es) actor sends line (ask.Rule moment json) known p silent = ap Some (after_rule es actor sends line moment json known p)
-refines_by (Some es) actor sends line (ask.Unrule moment group id) known p silent = ap Some (after_unrule es actor sends line moment group id known p)
-refines_by (Some es) actor sends line (ask.Check moment region) known p silent = ap Some (after_check es actor sends line moment region known p)
-refines_by (Some es) actor sends line (ask.Patrol moment workers) known p silent = ap Some (after_patrol es actor sends line moment workers known p)
-refines_by (Some es) actor sends line (ask.Schedule moment) known p silent = ap Some (after_schedule es actor sends line moment known p)
+refines_by None actor sends line _ known p silent = refl
+refines_by (Some es) actor sends line (ask.Patrol moment workers) known p silent = ap Some (after_by es actor sends line (ask.Patrol moment workers) known p refl refl (rows_again es (deed_of (patrol_of (part_of es) moment) (part_of es) moment known.answers).stores (patrol_rows es moment known.answers)) refl refl)
 refines_by (Some es) actor sends line (ask.Ctl moment words) known p silent =
-    ctl_by (resigns words) (changed_part (part_of es) (ask.Ctl moment words) p known) (entry_of actor sends line (ask.Ctl moment words) known p ∷ es) (after_ctl es actor sends line moment words known p)
+    ctl_by (resigns words) (changed_part (part_of es) (ask.Ctl moment words) p known) (entry_of actor sends line (ask.Ctl moment words) known p ∷ es)
+    (after_by es actor sends line (ask.Ctl moment words) known p refl refl (rows_again es (deed_of (ctl_of (part_of es) moment words) (part_of es) moment known.answers).stores (ctl_rows es moment words known.answers)) refl refl)
+refines_by (Some es) actor sends line request known p silent = ap Some (after_by es actor sends line request known p refl refl refl refl refl)
 
 -- silence, over one entry more
 silent_patrol : (es : List Entry) (moment : ℕ) (known : Heard) → Silent es → (store : ℕ)
@@ -381,24 +260,13 @@ silent_more : (driver : ℕ) (s : Option (List Entry)) (actor : Actor) (sends : 
 silent_more driver s actor sends line (ask.Term term moment) known (replies.Term t n m) silent is fs h = some_is _ fs h (λ store k. refl)
 silent_more driver s actor sends line (ask.Term term moment) known p silent is fs h = absurd cc
 silent_more driver s actor sends line ask.Retire known p silent is fs h = absurd cc
-silent_more driver None actor sends line (ask.Hello store moment address labels) known p silent is fs h = absurd cc
-silent_more driver None actor sends line (ask.Alive store moment) known p silent is fs h = absurd cc
-silent_more driver None actor sends line (ask.Beat store moment beat) known p silent is fs h = absurd cc
 silent_more driver (Some es) actor sends line (ask.Hello store moment address labels) known p silent is fs h = some_is _ fs h (silent_hello es actor sends line store moment address labels known p (silent es refl))
 silent_more driver (Some es) actor sends line (ask.Alive store moment) known p silent is fs h = some_is _ fs h (silent_alive es actor sends line store moment known p is (silent es refl))
-silent_more driver (Some es) actor sends line (ask.Beat store moment beat) known p silent is fs h = some_is _ fs h (silent es refl)
-silent_more driver None actor sends line (ask.Rule moment json) known p silent is fs h = absurd cc
-silent_more driver None actor sends line (ask.Unrule moment group id) known p silent is fs h = absurd cc
-silent_more driver None actor sends line (ask.Check moment region) known p silent is fs h = absurd cc
-silent_more driver None actor sends line (ask.Patrol moment workers) known p silent is fs h = absurd cc
-silent_more driver None actor sends line (ask.Schedule moment) known p silent is fs h = absurd cc
 silent_more driver None actor sends line (ask.Ctl moment words) known p silent is fs h = silent_none (resigns words) fs h
-silent_more driver (Some es) actor sends line (ask.Rule moment json) known p silent is fs h = some_is _ fs h (silent es refl)
-silent_more driver (Some es) actor sends line (ask.Unrule moment group id) known p silent is fs h = some_is _ fs h (silent es refl)
-silent_more driver (Some es) actor sends line (ask.Check moment region) known p silent is fs h = some_is _ fs h (silent es refl)
 silent_more driver (Some es) actor sends line (ask.Patrol moment workers) known p silent is fs h = some_is _ fs h (silent_patrol es moment known (silent es refl))
-silent_more driver (Some es) actor sends line (ask.Schedule moment) known p silent is fs h = some_is _ fs h (silent es refl)
 silent_more driver (Some es) actor sends line (ask.Ctl moment words) known p silent is fs h = silent_kept (resigns words) _ fs h (silent_ctl es moment words known (silent es refl))
+silent_more driver None actor sends line _ known p silent is fs h = absurd cc
+silent_more driver (Some es) actor sends line _ known p silent is fs h = some_is _ fs h (silent es refl)
 
 pub silent_after : (driver : ℕ) (past : List Entry) → IsLegal driver past → (es : List Entry) → since past ≡ Some es → Silent es
 silent_after driver [] legal es h = absurd cc
@@ -441,11 +309,8 @@ told_raised request answers part = record part { clock = max part.clock (moment_
 
 leaves_by : (driver : ℕ) (old : Option Part) (r : Request) (known : Heard) (p : Reply) → p ≡ first_reply driver old r known → refused_by r p ≡ true → stepped old r p known ≡ option_map (told_raised r known.answers) old
 leaves_by driver old (ask.Term term moment) known p is h = absurd cc
-leaves_by driver None ask.Retire known p is h = refl
+leaves_by driver None _ known p is h = refl
 leaves_by driver (Some part) ask.Retire known p is h = absurd (let both : refuses replies.Retired ≡ true = subst (λ (q : Reply). refuses q ≡ true) is h in cc)
-leaves_by driver None (ask.Hello store moment address labels) known p is h = refl
-leaves_by driver None (ask.Alive store moment) known p is h = refl
-leaves_by driver None (ask.Beat store moment beat) known p is h = refl
 leaves_by driver (Some part) (ask.Hello store moment address labels) known p is h = λ i. Some (record part {
   clock = max part.clock moment;
   known = known_after known.answers part.known;
@@ -464,13 +329,9 @@ leaves_by driver (Some part) (ask.Beat store moment beat) known p is h = λ i. S
   limits = (no_planned p beat (around_at part moment) (planning_of part) h i).limits;
   window = (no_planned p beat (around_at part moment) (planning_of part) h i).window;
 })
-leaves_by driver None (ask.Check moment region) known p is h = refl
 leaves_by driver (Some part) (ask.Check moment region) known p is h =
     let same = refused_check part moment region known.answers (subst (λ (q : Reply). refuses q ≡ true) is h) in
     ap (λ (planning : Planning). Some (replanned (record part { clock = max part.clock moment }) planning (known_after known.answers part.known))) same.0
-leaves_by driver None (ask.Patrol moment workers) known p is h = refl
-leaves_by driver None (ask.Schedule moment) known p is h = refl
-leaves_by driver None (ask.Ctl moment words) known p is h = refl
 leaves_by driver (Some part) (ask.Patrol moment workers) known p is h = λ i.
     let same = refused_patrol part moment known.answers (subst (λ (q : Reply). refuses q ≡ true) is h) in
     Some (replanned (record part { clock = max part.clock moment; stores = same.1 i }) (same.0 i) (known_after known.answers part.known))
@@ -481,8 +342,6 @@ leaves_by driver (Some part) (ask.Ctl moment words) known p is h =
     let same = reading_ctl part moment words known.answers h in
     ap (λ (t : Bool). cond t None (Some (changed_part part (ask.Ctl moment words) p known))) (reading_stays words h)
     ∙ (λ i. Some (replanned (record part { clock = max part.clock moment; stores = same.1 i }) (same.0 i) (known_after known.answers part.known)))
-leaves_by driver None (ask.Rule moment json) known p is h = refl
-leaves_by driver None (ask.Unrule moment group id) known p is h = refl
 leaves_by driver (Some part) (ask.Rule moment json) known p is h =
     ap (λ (rules : List Rule). Some (record part { clock = max part.clock moment; known = known_after known.answers part.known; rules = rules })) (no_set p (rule_told json) part.rules h)
 leaves_by driver (Some part) (ask.Unrule moment group id) known p is h =

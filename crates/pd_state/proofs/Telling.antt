@@ -386,13 +386,4 @@ term_tells driver part (ask.Unrule moment group id) heard step is = absurd (unru
 pub told_sent : (driver : ℕ) (part : Option Part) (request : Request) (heard : Heard) (step : Step) → TellsStep (first_reply driver part request heard) step → AmongTold (first_reply driver part request heard) (sents_by part request (first_reply driver part request heard) heard)
 told_sent driver (Some part) request heard step is = term_tells driver part request heard step is
 told_sent driver None (ask.Term term moment) heard step is = absurd (answers_silent (begun_reply term heard) heard.answers (λ s h. h) step is)
-told_sent driver None ask.Retire heard step is = absurd is
-told_sent driver None (ask.Hello store moment address labels) heard step is = absurd is
-told_sent driver None (ask.Alive store moment) heard step is = absurd is
-told_sent driver None (ask.Beat store moment beat) heard step is = absurd is
-told_sent driver None (ask.Rule moment json) heard step is = absurd is
-told_sent driver None (ask.Unrule moment group id) heard step is = absurd is
-told_sent driver None (ask.Check moment region) heard step is = absurd is
-told_sent driver None (ask.Patrol moment workers) heard step is = absurd is
-told_sent driver None (ask.Schedule moment) heard step is = absurd is
-told_sent driver None (ask.Ctl moment words) heard step is = absurd is
+told_sent driver None _ heard step is = absurd is

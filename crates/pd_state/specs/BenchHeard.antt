@@ -1,5 +1,5 @@
 -- What a request hears of the bench of schedulers, and what it leaves of it (PD documentation, "Scheduling"; pd-ctl, `scheduler show` and `scheduler remove`).
-use Rattle.std.specs.Prelude.{◌≡◌, ℕ, max, ◌++◌, Bool, true, false, List, [], ◌∷◌, if◌then◌else◌, Option, Some, None, Result, Ok}
+use Rattle.std.specs.Prelude.{◌≡◌, ℕ, max, ◌++◌, Bool, true, false, List, [], ◌∷◌, length, if◌then◌else◌, Option, Some, None, Result, Ok}
 use Rattle.std.specs.Str.{bytes_eq}
 use Rattle.pd_types.specs.declared.request.Request.{Request}
 use Rattle.pd_types.specs.declared.request.Request.TheVariants as ask
@@ -14,6 +14,7 @@ use Rattle.pd_state.specs.Scheduling.{fate}
 use Rattle.pd_state.specs.State.{moment_of}
 use Rattle.pd_state.specs.Wishing.{region_of}
 use Rattle.pd_state.specs.declared.entry.Entry.{Entry}
+use Rattle.pd_state.specs.declared.heard.Heard.{Heard}
 use Rattle.pd_state.specs.declared.part.Part.{Part}
 use Rattle.pd_state.specs.declared.reply.Reply.{Reply}
 use Rattle.pd_state.specs.declared.reply.Reply.TheVariants as replies
@@ -28,15 +29,7 @@ names_by _ = false
 abbrev pub asks_names : Request → Bool
 asks_names (ask.Schedule moment) = true
 asks_names (ask.Ctl moment words) = names_by (command_told words)
-asks_names (ask.Term term moment) = false
-asks_names ask.Retire = false
-asks_names (ask.Hello store moment address labels) = false
-asks_names (ask.Alive store moment) = false
-asks_names (ask.Beat store moment beat) = false
-asks_names (ask.Rule moment json) = false
-asks_names (ask.Unrule moment group id) = false
-asks_names (ask.Check moment region) = false
-asks_names (ask.Patrol moment workers) = false
+asks_names _ = false
 
 -- of these names, what a request hears: none where it doesn't ask for them
 abbrev pub names_heard : Request → List (List ℕ) → List (List ℕ)
@@ -113,6 +106,12 @@ Leaves None old new = new ≡ old
 abbrev pub Becomes : ℕ → Option Fate → List Said → Option (List ℕ) → Seats → Seats → Type 0
 Becomes now fate (said ∷ more) name old new = Turned now fate said old new
 Becomes now fate [] name old new = Leaves name old new
+
+-- What a request heard of a bench and left of it: as many answers as it lets schedulers take turns, the names where it asks for them, and the bench as they leave it
+pub record HearsBench (part : Option Part) (request : Request) (reply : Reply) (heard : Heard) (old new : Seats) : Type 0 where
+  pub turns : length heard.bench ≡ turns_of part request heard.names
+  pub names : heard.names ≡ names_heard request (names_of old)
+  pub becomes : Becomes (asked_at part request) (fate_told reply) heard.bench (dropped part request heard.names) old new
 
 -- An entry was made over a bench: it heard the names where it asked for them; a scheduler that it let propose was asked with the cluster's clock and told what
 -- became of just that proposal; what the bench said grew by just what the entry heard of it; the names stay, but for the first of the name that it took out

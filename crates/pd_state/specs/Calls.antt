@@ -95,25 +95,14 @@ unrule_calls part group id = unless (removal_refused (remove_refusal group id pa
 -- the call that a request makes next where the bench said this, after these answers: a Term announces its term, and without a term part no other request makes one
 abbrev pub next_call : Option Part → Request → List Said → List MetaAnswer → Option MetaCall
 next_call part (ask.Term term moment) said before = in_turn (calls.Lead term ∷ []) before
-next_call part ask.Retire said before = None
 next_call (Some part) (ask.Hello store moment address labels) said before = in_turn (hello_calls part store address labels) before
-next_call (Some part) (ask.Alive store moment) said before = None
-next_call (Some part) (ask.Beat store moment beat) said before = None
 next_call (Some part) (ask.Rule moment json) said before = in_turn (rule_calls part (rule_told json)) before
 next_call (Some part) (ask.Unrule moment group id) said before = in_turn (unrule_calls part group id) before
 next_call (Some part) (ask.Check moment region) said before = wanted (check_of part moment region (hearing part.known before))
 next_call (Some part) (ask.Patrol moment workers) said before = wanted (patrol_of part moment (hearing part.known before))
 next_call (Some part) (ask.Schedule moment) said before = wanted (schedule_of part moment said (hearing part.known before))
 next_call (Some part) (ask.Ctl moment words) said before = wanted (ctl_of part moment words (hearing part.known before))
-next_call None (ask.Hello store moment address labels) said before = None
-next_call None (ask.Alive store moment) said before = None
-next_call None (ask.Beat store moment beat) said before = None
-next_call None (ask.Rule moment json) said before = None
-next_call None (ask.Unrule moment group id) said before = None
-next_call None (ask.Check moment region) said before = None
-next_call None (ask.Patrol moment workers) said before = None
-next_call None (ask.Schedule moment) said before = None
-next_call None (ask.Ctl moment words) said before = None
+next_call _ _ said before = None
 
 -- the peers of regions, and one more for each region: as many ids are drawn at most for the plans of all
 abbrev pub most_draws : List RegionBeat → ℕ

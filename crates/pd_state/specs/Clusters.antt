@@ -51,51 +51,25 @@ refuses_adding adding.IdsSpent = false
 
 -- the reply is a refusal, or a scheduler's that proposes nothing
 abbrev pub refuses : Reply → Bool
-refuses replies.NotLeading = true
 refuses (replies.Term term stores rules) = false
 refuses replies.Retired = false
-refuses (replies.OldTerm fence) = true
-refuses (replies.Conflict found) = true
-refuses replies.MetaLimit = true
-refuses replies.Tombstone = true
-refuses replies.Limit = true
 refuses replies.StorePut = false
-refuses replies.UnknownStore = true
 refuses replies.Alive = false
-refuses (replies.Bad fault) = true
-refuses (replies.Stale kept) = true
-refuses replies.Full = true
 refuses (replies.Accepted removed answer) = false
-refuses (replies.BadRule fault) = true
-refuses replies.RuleLimit = true
 refuses replies.RulePut = false
-refuses replies.Absent = true
-refuses replies.LastRule = true
 refuses replies.RuleRemoved = false
-refuses replies.NoRegion = true
-refuses (replies.NeedsSplit key) = true
 refuses replies.NoFault = false
 refuses (replies.Plan class from to came) = refuses_adding came
-refuses (replies.NoPlan from) = true
 refuses (replies.Patrolled regions ok split plan no_plan added buried) = false
-refuses replies.NoScheduler = true
-refuses (replies.Silent name) = true
 refuses (replies.Proposed name proposal came) = refuses_adding came
 refuses (replies.Report json) = false
+refuses _ = true
 
 -- a request with this reply is refused, or asks for nothing but a report; a Term isn't among these, since a refused one ends the term before it
 abbrev pub refused_by : Request → Reply → Bool
 refused_by (ask.Term term moment) reply = false
-refused_by ask.Retire reply = refuses reply
-refused_by (ask.Hello store moment address labels) reply = refuses reply
-refused_by (ask.Alive store moment) reply = refuses reply
-refused_by (ask.Beat store moment beat) reply = refuses reply
-refused_by (ask.Rule moment json) reply = refuses reply
-refused_by (ask.Unrule moment group id) reply = refuses reply
-refused_by (ask.Check moment region) reply = refuses reply
-refused_by (ask.Patrol moment workers) reply = refuses reply
-refused_by (ask.Schedule moment) reply = refuses reply
 refused_by (ask.Ctl moment words) reply = reads_only words
+refused_by _ reply = refuses reply
 
 -- the entry is a request that was refused, and no Term
 abbrev pub is_refused : Entry → Bool

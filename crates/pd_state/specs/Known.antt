@@ -41,16 +41,7 @@ where_put _ fact = false
 -- the request is a hello of this store, and was accepted
 abbrev pub greets : ℕ → Request → Reply → Bool
 greets store (ask.Hello at moment address labels) reply = where_put reply (nat_eq at store)
-greets store (ask.Term term moment) reply = false
-greets store ask.Retire reply = false
-greets store (ask.Alive at moment) reply = false
-greets store (ask.Beat at moment beat) reply = false
-greets store (ask.Rule moment json) reply = false
-greets store (ask.Unrule moment group id) reply = false
-greets store (ask.Check moment region) reply = false
-greets store (ask.Patrol moment workers) reply = false
-greets store (ask.Schedule moment) reply = false
-greets store (ask.Ctl moment words) reply = false
+greets store _ reply = false
 
 -- an accepted hello of this store
 abbrev pub is_hello : ℕ → Entry → Bool
@@ -70,16 +61,7 @@ pub record LastHello (entries : List Entry) (store : ℕ) (address : List ℕ) (
 -- the records that the Term was handed, which is the first of these entries
 abbrev pub begun_with : Request → List Cell → List Cell → List Cell
 begun_with (ask.Term term moment) own before = own
-begun_with ask.Retire own before = before
-begun_with (ask.Hello store moment address labels) own before = before
-begun_with (ask.Alive store moment) own before = before
-begun_with (ask.Beat store moment beat) own before = before
-begun_with (ask.Rule moment json) own before = before
-begun_with (ask.Unrule moment group id) own before = before
-begun_with (ask.Check moment region) own before = before
-begun_with (ask.Patrol moment workers) own before = before
-begun_with (ask.Schedule moment) own before = before
-begun_with (ask.Ctl moment words) own before = before
+begun_with _ own before = before
 
 -- the records that a term part was handed
 abbrev pub handed_to : List Entry → List Cell
@@ -105,16 +87,7 @@ has_tombstone (Some state) = is_tombstone state
 -- a patrol that stood on this and heard this left the store a tombstone
 abbrev pub entombs : ℕ → Request → Heard → Part → Bool
 entombs store (ask.Patrol moment workers) heard part = has_tombstone (state_at store (deed_of (patrol_of part moment) part moment heard.answers).stores)
-entombs store (ask.Schedule moment) heard part = false
-entombs store (ask.Ctl moment words) heard part = false
-entombs store (ask.Term term moment) heard part = false
-entombs store ask.Retire heard part = false
-entombs store (ask.Hello at moment address labels) heard part = false
-entombs store (ask.Alive at moment) heard part = false
-entombs store (ask.Beat at moment beat) heard part = false
-entombs store (ask.Rule moment json) heard part = false
-entombs store (ask.Unrule moment group id) heard part = false
-entombs store (ask.Check moment region) heard part = false
+entombs store _ heard part = false
 
 -- the state is Offline
 abbrev pub is_offline : StoreState → Bool
@@ -135,16 +108,7 @@ names_store store _ = false
 -- a command of pd-ctl that stood on this and heard this deleted the store, and left it Offline
 abbrev pub deletes : ℕ → Request → Heard → Part → Bool
 deletes store (ask.Ctl moment words) heard part = names_store store (command_told words) && has_offline (state_at store (deed_of (ctl_of part moment words) part moment heard.answers).stores)
-deletes store (ask.Term term moment) heard part = false
-deletes store ask.Retire heard part = false
-deletes store (ask.Hello at moment address labels) heard part = false
-deletes store (ask.Alive at moment) heard part = false
-deletes store (ask.Beat at moment beat) heard part = false
-deletes store (ask.Rule moment json) heard part = false
-deletes store (ask.Unrule moment group id) heard part = false
-deletes store (ask.Check moment region) heard part = false
-deletes store (ask.Patrol moment workers) heard part = false
-deletes store (ask.Schedule moment) heard part = false
+deletes store _ heard part = false
 
 -- one of these entries deleted the store
 abbrev pub is_deleted : ℕ → List Entry → Bool

@@ -48,16 +48,7 @@ term_reply driver part (ask.Ctl moment words) heard = reply_or (report_told driv
 -- the first reply that applies: without a term part every request but Term is not served
 abbrev pub first_reply : ℕ → Option Part → Request → Heard → Reply
 first_reply driver None (ask.Term term moment) heard = begin_reply term heard
-first_reply driver None ask.Retire heard = replies.NotLeading
-first_reply driver None (ask.Hello store moment address labels) heard = replies.NotLeading
-first_reply driver None (ask.Alive store moment) heard = replies.NotLeading
-first_reply driver None (ask.Beat store moment beat) heard = replies.NotLeading
-first_reply driver None (ask.Rule moment json) heard = replies.NotLeading
-first_reply driver None (ask.Unrule moment group id) heard = replies.NotLeading
-first_reply driver None (ask.Check moment region) heard = replies.NotLeading
-first_reply driver None (ask.Patrol moment workers) heard = replies.NotLeading
-first_reply driver None (ask.Schedule moment) heard = replies.NotLeading
-first_reply driver None (ask.Ctl moment words) heard = replies.NotLeading
+first_reply driver None _ heard = replies.NotLeading
 first_reply driver (Some part) request heard = term_reply driver part request heard
 
 -- the steps that an accepted heartbeat sends
@@ -72,12 +63,7 @@ term_sents part (ask.Check moment region) reply heard = (deed_of (check_of part 
 term_sents part (ask.Patrol moment workers) reply heard = (deed_of (patrol_of part moment) part moment heard.answers).sents
 term_sents part (ask.Schedule moment) reply heard = (deed_of (schedule_of part moment heard.bench) part moment heard.answers).sents
 term_sents part (ask.Ctl moment words) reply heard = (deed_of (ctl_of part moment words) part moment heard.answers).sents
-term_sents part (ask.Term term moment) reply heard = []
-term_sents part ask.Retire reply heard = []
-term_sents part (ask.Hello store moment address labels) reply heard = []
-term_sents part (ask.Alive store moment) reply heard = []
-term_sents part (ask.Rule moment json) reply heard = []
-term_sents part (ask.Unrule moment group id) reply heard = []
+term_sents part _ reply heard = []
 
 -- the steps that a request sends: none without a term part
 abbrev pub sents_by : Option Part → Request → Reply → Heard → List Sent

@@ -16,15 +16,8 @@ begun _ entry = None
 abbrev pub since_by : Request → Entry → Option (List Entry) → Option (List Entry)
 since_by (ask.Term term moment) entry part = begun entry.reply entry
 since_by ask.Retire entry part = None
-since_by (ask.Hello store moment address labels) entry part = option_map (λ entries. entry ∷ entries) part
-since_by (ask.Alive store moment) entry part = option_map (λ entries. entry ∷ entries) part
-since_by (ask.Beat store moment beat) entry part = option_map (λ entries. entry ∷ entries) part
-since_by (ask.Rule moment json) entry part = option_map (λ entries. entry ∷ entries) part
-since_by (ask.Unrule moment group id) entry part = option_map (λ entries. entry ∷ entries) part
-since_by (ask.Check moment region) entry part = option_map (λ entries. entry ∷ entries) part
-since_by (ask.Patrol moment workers) entry part = option_map (λ entries. entry ∷ entries) part
-since_by (ask.Schedule moment) entry part = option_map (λ entries. entry ∷ entries) part
 since_by (ask.Ctl moment words) entry part = if resigns words then None else option_map (λ entries. entry ∷ entries) part
+since_by _ entry part = option_map (λ entries. entry ∷ entries) part
 
 -- the term part: the entries from the last Term on, where that one was accepted and the term wasn't given up later
 abbrev pub since : List Entry → Option (List Entry)

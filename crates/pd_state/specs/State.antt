@@ -56,16 +56,7 @@ clock_of (entry ∷ entries) = max (clock_of entries) (moment_of entry.request)
 -- the number of a Term, else the one before
 abbrev pub term_by : Request → ℕ → ℕ
 term_by (ask.Term term moment) before = term
-term_by ask.Retire before = before
-term_by (ask.Hello store moment address labels) before = before
-term_by (ask.Alive store moment) before = before
-term_by (ask.Beat store moment beat) before = before
-term_by (ask.Rule moment json) before = before
-term_by (ask.Unrule moment group id) before = before
-term_by (ask.Check moment region) before = before
-term_by (ask.Patrol moment workers) before = before
-term_by (ask.Schedule moment) before = before
-term_by (ask.Ctl moment words) before = before
+term_by _ before = before
 
 -- the number of the last Term
 abbrev pub term_of : List Entry → ℕ
@@ -75,16 +66,7 @@ term_of (entry ∷ entries) = term_by entry.request (term_of entries)
 -- the moment of a Term, else the one before
 abbrev pub began_by : Request → ℕ → ℕ
 began_by (ask.Term term moment) before = moment
-began_by ask.Retire before = before
-began_by (ask.Hello store moment address labels) before = before
-began_by (ask.Alive store moment) before = before
-began_by (ask.Beat store moment beat) before = before
-began_by (ask.Rule moment json) before = before
-began_by (ask.Unrule moment group id) before = before
-began_by (ask.Check moment region) before = before
-began_by (ask.Patrol moment workers) before = before
-began_by (ask.Schedule moment) before = before
-began_by (ask.Ctl moment words) before = before
+began_by _ before = before
 
 -- the moment of the last Term
 abbrev pub began_of : List Entry → ℕ
@@ -99,16 +81,7 @@ accepted_by _ beat earlier = earlier
 -- the accepted region heartbeats with one request more
 abbrev pub beats_by : Request → Reply → List RegionBeat → List RegionBeat
 beats_by (ask.Beat store moment beat) reply earlier = accepted_by reply beat earlier
-beats_by (ask.Term term moment) reply earlier = earlier
-beats_by ask.Retire reply earlier = earlier
-beats_by (ask.Hello store moment address labels) reply earlier = earlier
-beats_by (ask.Alive store moment) reply earlier = earlier
-beats_by (ask.Rule moment json) reply earlier = earlier
-beats_by (ask.Unrule moment group id) reply earlier = earlier
-beats_by (ask.Check moment region) reply earlier = earlier
-beats_by (ask.Patrol moment workers) reply earlier = earlier
-beats_by (ask.Schedule moment) reply earlier = earlier
-beats_by (ask.Ctl moment words) reply earlier = earlier
+beats_by _ reply earlier = earlier
 
 -- the accepted region heartbeats, the latest first
 abbrev pub beats_of : List Entry → List RegionBeat
@@ -133,15 +106,7 @@ alive_by _ store at moment before = before
 abbrev pub heartbeat_by : Request → Reply → ℕ → Option ℕ → Option ℕ
 heartbeat_by (ask.Hello at moment address labels) reply store before = hello_by reply store at moment before
 heartbeat_by (ask.Alive at moment) reply store before = alive_by reply store at moment before
-heartbeat_by (ask.Term term moment) reply store before = before
-heartbeat_by ask.Retire reply store before = before
-heartbeat_by (ask.Beat at moment beat) reply store before = before
-heartbeat_by (ask.Rule moment json) reply store before = before
-heartbeat_by (ask.Unrule moment group id) reply store before = before
-heartbeat_by (ask.Check moment region) reply store before = before
-heartbeat_by (ask.Patrol moment workers) reply store before = before
-heartbeat_by (ask.Schedule moment) reply store before = before
-heartbeat_by (ask.Ctl moment words) reply store before = before
+heartbeat_by _ reply store before = before
 
 -- a store's last heartbeat: the greatest moment of its accepted hellos and alives
 abbrev pub heartbeat : List Entry → ℕ → Option ℕ
@@ -169,13 +134,7 @@ records_by (ask.Term term moment) reply heard part recs = stores_told (handed_ou
 records_by (ask.Hello store moment address labels) reply heard part recs = greeted_by reply (greeting store address labels) recs
 records_by (ask.Patrol moment workers) reply heard part recs = map (λ (entry : StoreEntry). entry.store) (deed_of (patrol_of part moment) part moment heard.answers).stores
 records_by (ask.Ctl moment words) reply heard part recs = map (λ (entry : StoreEntry). entry.store) (deed_of (ctl_of part moment words) part moment heard.answers).stores
-records_by ask.Retire reply heard part recs = recs
-records_by (ask.Alive store moment) reply heard part recs = recs
-records_by (ask.Beat store moment beat) reply heard part recs = recs
-records_by (ask.Rule moment json) reply heard part recs = recs
-records_by (ask.Unrule moment group id) reply heard part recs = recs
-records_by (ask.Check moment region) reply heard part recs = recs
-records_by (ask.Schedule moment) reply heard part recs = recs
+records_by _ reply heard part recs = recs
 
 -- what a term begins with that was handed these records: no operator, full limits, and a window that is used up
 abbrev pub planning_told : ℕ → List Cell → Planning
@@ -208,10 +167,7 @@ planned_by (ask.Check moment region) reply heard part = (deed_of (check_of part 
 planned_by (ask.Patrol moment workers) reply heard part = (deed_of (patrol_of part moment) part moment heard.answers).planning
 planned_by (ask.Schedule moment) reply heard part = (deed_of (schedule_of part moment heard.bench) part moment heard.answers).planning
 planned_by (ask.Ctl moment words) reply heard part = (deed_of (ctl_of part moment words) part moment heard.answers).planning
-planned_by ask.Retire reply heard part = planning_of part
-planned_by (ask.Alive store moment) reply heard part = planning_of part
-planned_by (ask.Rule moment json) reply heard part = planning_of part
-planned_by (ask.Unrule moment group id) reply heard part = planning_of part
+planned_by _ reply heard part = planning_of part
 
 -- a rule that was told, where the reply sets it
 abbrev pub set_by : Reply → Result Rule RuleFault → List Rule → List Rule
@@ -228,14 +184,7 @@ abbrev pub rules_by : Request → Reply → Heard → List Rule → List Rule
 rules_by (ask.Term term moment) reply heard rules = or_default (rules_told (handed_out heard.answers))
 rules_by (ask.Rule moment json) reply heard rules = set_by reply (rule_told json) rules
 rules_by (ask.Unrule moment group id) reply heard rules = removed_by reply group id rules
-rules_by ask.Retire reply heard rules = rules
-rules_by (ask.Hello store moment address labels) reply heard rules = rules
-rules_by (ask.Alive store moment) reply heard rules = rules
-rules_by (ask.Beat store moment beat) reply heard rules = rules
-rules_by (ask.Check moment region) reply heard rules = rules
-rules_by (ask.Patrol moment workers) reply heard rules = rules
-rules_by (ask.Schedule moment) reply heard rules = rules
-rules_by (ask.Ctl moment words) reply heard rules = rules
+rules_by _ reply heard rules = rules
 
 -- the rules that the Term was handed, with the later accepted changes
 abbrev pub rules_of : List Entry → List Rule

@@ -48,13 +48,7 @@ stores_after (ask.Hello store moment address labels) reply heard part began entr
 stores_after (ask.Alive store moment) reply heard part began entries = heard_after reply store moment entries
 stores_after (ask.Patrol moment workers) reply heard part began entries = (deed_of (patrol_of part moment) part moment heard.answers).stores
 stores_after (ask.Ctl moment words) reply heard part began entries = (deed_of (ctl_of part moment words) part moment heard.answers).stores
-stores_after (ask.Schedule moment) reply heard part began entries = entries
-stores_after (ask.Term term moment) reply heard part began entries = entries
-stores_after ask.Retire reply heard part began entries = entries
-stores_after (ask.Beat store moment beat) reply heard part began entries = entries
-stores_after (ask.Rule moment json) reply heard part began entries = entries
-stores_after (ask.Unrule moment group id) reply heard part began entries = entries
-stores_after (ask.Check moment region) reply heard part began entries = entries
+stores_after _ reply heard part began entries = entries
 
 -- the regions after a heartbeat with this reply
 abbrev pub beat_after : Reply → RegionBeat → List RegionBeat → List RegionBeat
@@ -64,30 +58,13 @@ beat_after _ beat held = held
 -- the regions after a request with this reply
 abbrev pub standing_after : Request → Reply → List RegionBeat → List RegionBeat
 standing_after (ask.Beat store moment beat) reply held = beat_after reply beat held
-standing_after (ask.Term term moment) reply held = held
-standing_after ask.Retire reply held = held
-standing_after (ask.Hello store moment address labels) reply held = held
-standing_after (ask.Alive store moment) reply held = held
-standing_after (ask.Rule moment json) reply held = held
-standing_after (ask.Unrule moment group id) reply held = held
-standing_after (ask.Check moment region) reply held = held
-standing_after (ask.Patrol moment workers) reply held = held
-standing_after (ask.Schedule moment) reply held = held
-standing_after (ask.Ctl moment words) reply held = held
+standing_after _ reply held = held
 
 -- the rules after a request with this reply
 abbrev pub rules_after : Request → Reply → List Rule → List Rule
 rules_after (ask.Rule moment json) reply rules = set_by reply (rule_told json) rules
 rules_after (ask.Unrule moment group id) reply rules = removed_by reply group id rules
-rules_after (ask.Term term moment) reply rules = rules
-rules_after ask.Retire reply rules = rules
-rules_after (ask.Hello store moment address labels) reply rules = rules
-rules_after (ask.Alive store moment) reply rules = rules
-rules_after (ask.Beat store moment beat) reply rules = rules
-rules_after (ask.Check moment region) reply rules = rules
-rules_after (ask.Patrol moment workers) reply rules = rules
-rules_after (ask.Schedule moment) reply rules = rules
-rules_after (ask.Ctl moment words) reply rules = rules
+rules_after _ reply rules = rules
 
 -- the tables of a term after a request with this reply, that heard this
 abbrev pub changed_part : Part → Request → Reply → Heard → Part

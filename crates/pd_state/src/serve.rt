@@ -5,14 +5,13 @@ ghost use Rattle.heartbeat.specs.Intakes.{intake_of};
 ghost use Rattle.meta_store.specs.Asked.{AreAsked};
 ghost use Rattle.meta_store.specs.Cells.{AreRising};
 ghost use Rattle.meta_store.specs.Doors.{Serves};
-ghost use Rattle.pd_state.specs.BenchHeard.{Becomes, asked_at, dropped, fate_told, names_heard, turns_of};
+ghost use Rattle.pd_state.specs.BenchHeard.{HearsBench};
 ghost use Rattle.pd_state.specs.Calls.{next_call};
 ghost use Rattle.pd_state.specs.Heard.{IsAlone, nothing, told_all};
 ghost use Rattle.pd_state.specs.Legal.{beat_dispatch, beat_sents, first_reply, sents_by, term_reply};
 ghost use Rattle.pd_state.specs.Replies.{alive_reply, beat_reply};
 ghost use Rattle.pd_state.specs.Steps.{changed_part, new_part, stepped};
 ghost use Rattle.pd_state.specs.declared.heard.Heard.{Heard};
-ghost use Rattle.sched_api.specs.Benches.{names_of};
 ghost use Rattle.store_table.specs.Entries.{state_at};
 
 use crate::checking::check_region;
@@ -215,9 +214,7 @@ pub fn step<M: Door, B: Seated>(
     requires { Serves (M.place door.old) driver }
     ensures reply { IfOk result (λ done. done.reply ≡ first_reply driver part.old request.now done.heard) }
     ensures asked { IfOk result (λ done. AreAsked (next_call part.old request.now done.heard.bench) [] done.heard.answers) }
-    ensures turns { IfOk result (λ done. length done.heard.bench ≡ turns_of part.old request.now done.heard.names) }
-    ensures names { IfOk result (λ done. done.heard.names ≡ names_heard request.now (names_of (B.seats bench.old))) }
-    ensures becomes { IfOk result (λ done. Becomes (asked_at part.old request.now) (fate_told done.reply) done.heard.bench (dropped part.old request.now done.heard.names) (B.seats bench.old) (B.seats bench.new)) }
+    ensures bench { IfOk result (λ done. HearsBench part.old request.now done.reply done.heard (B.seats bench.old) (B.seats bench.new)) }
     ensures after { IfOk result (λ done. part.new ≡ stepped part.old request.now done.reply done.heard) }
     ensures sents { IfOk result (λ done. done.sents ≡ sents_by part.old request.now done.reply done.heard) }
     ensures said { IfOk result (λ done. M.said door.new ≡ M.said door.old ++ done.heard.answers) }

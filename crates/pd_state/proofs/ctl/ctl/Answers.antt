@@ -1,4 +1,4 @@
-use Rattle.std.proofs.Common.{◌++◌, ◌∙◌, [], Option, ap, append-nil, refl, sym}
+use Rattle.std.proofs.Common.{◌++◌, ◌∙◌, Option, ap, append-nil, refl, sym}
 use Rattle.pd_types.specs.declared.request.Request.TheVariants as ask
 use Rattle.pd_state.specs.BenchHeard.{dropped}
 use Rattle.pd_state.specs.Heard.{told_all}
