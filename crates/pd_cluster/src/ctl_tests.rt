@@ -1,5 +1,6 @@
 // Scripts with schedulers and with commands of pd-ctl, over a source and a sink in memory. The expected
 // answers are worked examples.
+// Texts are functions and not constants, which take the check far longer.
 use crate::status::Status;
 use crate::tests::{answers_of, expect_with, script_of};
 use balance_sched::{BalanceLeader, BalanceRegion};
@@ -21,33 +22,34 @@ pub fn benches(alloc: Global) -> Result<Vec<Bench>, NoMemory> {
 }
 
 // Worked rows. In each line an act stands in front of `>` and its answer.
-pub const ROWS: [&str; 11] = [
-    // Heartbeats that are stale and that overlap.
-    r#"lead 1 1000 > won term 1 lo 1000 hi 4000
+pub fn rows() -> [&'static str; 11] {
+    [
+        // Heartbeats that are stale and that overlap.
+        r#"lead 1 1000 > won term 1 lo 1000 hi 4000
 beat 1 1 1000 7 - 40 1 6 11 11:1:v > accepted removed 0 none
 beat 1 1 1001 8 20 60 1 5 21 21:1:v > stale conf 1 version 6
 beat 1 1 1002 9 40 - 1 6 31 31:1:v > accepted removed 0 none
 beat 1 1 1003 10 - - 1 7 41 41:1:v > accepted removed 2 none
 beat 1 1 1004 11 - - 1 8 51 52:1:v > bad 5
 ctl 1 1004 region 10 > {"conf_ver":1,"end_key":"","id":10,"leader":41,"peers":[{"id":41,"role":"Voter","store_id":1}],"start_key":"","version":7}"#,
-    // A removal that would leave no majority is held.
-    r#"lead 1 1000 > won term 1 lo 1000 hi 4000
+        // A removal that would leave no majority is held.
+        r#"lead 1 1000 > won term 1 lo 1000 hi 4000
 hello 1 1 1000 a1 > store put
 hello 2 1 1000 a2 > store put
 hello 3 1 1000 a3 > store put
 beat 1 1 1000 7 - - 1 1 11 11:1:v,12:2:v,13:3:v > accepted removed 0 none
 alive 1 1 21001 > alive
 ctl 1 21001 operator add remove-peer 7 3 > {"added":1,"now":"held before live 1 of 3"}"#,
-    // The same a millisecond earlier is sent.
-    r#"lead 1 1000 > won term 1 lo 1000 hi 4000
+        // The same a millisecond earlier is sent.
+        r#"lead 1 1000 > won term 1 lo 1000 hi 4000
 hello 1 1 1000 a1 > store put
 hello 2 1 1000 a2 > store put
 hello 3 1 1000 a3 > store put
 beat 1 1 1000 7 - - 1 1 11 11:1:v,12:2:v,13:3:v > accepted removed 0 none
 alive 1 1 21000 > alive
 ctl 1 21000 operator add remove-peer 7 3 > {"added":1,"now":"send remove-peer peer 13 store 3"}"#,
-    // A peer that is Down is replaced, and its operator is looked at.
-    r#"lead 1 1000 > won term 1 lo 1000 hi 4000
+        // A peer that is Down is replaced, and its operator is looked at.
+        r#"lead 1 1000 > won term 1 lo 1000 hi 4000
 hello 1 1 1000 a1 zone=z1 > store put
 hello 2 1 1000 a2 zone=z2 > store put
 hello 3 1 1000 a3 zone=z3 > store put
@@ -65,8 +67,8 @@ check 1 1801003 7 > plan remove from 1 to 0 send remove-peer peer 13 store 3
 beat 1 1 1801004 7 - - 4 1 11 11:1:v,12:2:v,1000001:4:v > accepted removed 0 done
 check 1 1801004 7 > no-fault
 ctl 1 1801004 operator check 7 > {"region":7,"state":"Success"}"#,
-    // Five stores in three zones, eight regions on three of them: nothing is to be done but to balance.
-    r#"lead 1 1000 > won term 1 lo 1000 hi 4000
+        // Five stores in three zones, eight regions on three of them: nothing is to be done but to balance.
+        r#"lead 1 1000 > won term 1 lo 1000 hi 4000
 hello 1 1 1000 s1 zone=z1 > store put
 hello 2 1 1000 s2 zone=z1 > store put
 hello 3 1 1000 s3 zone=z2 > store put
@@ -87,8 +89,8 @@ ctl 1 1004 store 1 > {"address":"s1","id":1,"labels":[{"key":"zone","value":"z1"
 ctl 1 1004 scheduler remove balance-region-scheduler > {"done":"Removed"}
 ctl 1 1004 scheduler remove balance-region-scheduler > {"fault":"absent"}
 ctl 1 1004 scheduler show > {"schedulers":["balance-leader-scheduler"]}"#,
-    // A leader's peer is moved by hand.
-    r#"lead 1 1000 > won term 1 lo 1000 hi 4000
+        // A leader's peer is moved by hand.
+        r#"lead 1 1000 > won term 1 lo 1000 hi 4000
 hello 1 1 1000 a1 > store put
 hello 2 1 1000 a2 > store put
 hello 3 1 1000 a3 > store put
@@ -97,8 +99,8 @@ beat 1 1 1000 7 - - 1 1 11 11:1:v,12:2:v,13:3:v > accepted removed 0 none
 ctl 1 1000 operator add transfer-peer 7 1 4 > {"added":4,"now":"send add-learner peer 1000001 store 4"}
 ctl 1 1000 operator show > {"operators":[{"kind":"admin","region":7,"state":"Started","step":0,"steps":["add-learner peer 1000001 store 4","promote-learner peer 1000001 store 4","transfer-leader peer 12 store 2","remove-peer peer 11 store 1"]}]}
 ctl 1 1000 operator add transfer-peer 7 1 4 > {"fault":"busy 3"}"#,
-    // A driver whose term is over writes nothing, and another one has what was stored.
-    r#"lead 1 1000 > won term 1 lo 1000 hi 4000
+        // A driver whose term is over writes nothing, and another one has what was stored.
+        r#"lead 1 1000 > won term 1 lo 1000 hi 4000
 hello 1 1 1000 a1 > store put
 lead 2 500 > won term 2 lo 4001 hi 7001
 hello 2 1 1001 a2 > old-term 2
@@ -108,8 +110,8 @@ alive 9 2 1002 > unknown-store
 alive 1 3 1002 > not-leading
 ctl 3 1002 store > not-leading
 schedule 3 1002 > not-leading"#,
-    // A driver resigns by a command, at its cluster and at the oracle.
-    r#"lead 1 1000 > won term 1 lo 1000 hi 4000
+        // A driver resigns by a command, at its cluster and at the oracle.
+        r#"lead 1 1000 > won term 1 lo 1000 hi 4000
 hello 1 1 1000 a1 > store put
 ctl 1 1001 member leader show > {"driver":1,"term":1}
 ctl 1 1001 member leader resign > {"done":"Resigned"}
@@ -120,8 +122,8 @@ ctl 1 1001 member leader resign > not-leading
 lead 1 1002 > won term 2 lo 4001 hi 7001
 alive 1 1 1002 > alive
 schedule 2 1002 > not-leading"#,
-    // In the middle of its single steps it goes on at the oracle.
-    r#"lead 1 1000 > won term 1 lo 1000 hi 4000
+        // In the middle of its single steps it goes on at the oracle.
+        r#"lead 1 1000 > won term 1 lo 1000 hi 4000
 hello 1 1 1000 a1 > store put
 probe 1 3999 > probed cursor 262144000
 ctl 1 1001 member leader resign > {"done":"Resigned"}
@@ -133,16 +135,16 @@ publish 1 > published hi 6999
 alive 1 1 1001 > not-leading
 take 1 1 1 > got term 1 driver 1 first 1048313857 last 1048313857
 resign 1 > resigned"#,
-    // Each driver has its own schedulers.
-    r#"lead 1 1000 > won term 1 lo 1000 hi 4000
+        // Each driver has its own schedulers.
+        r#"lead 1 1000 > won term 1 lo 1000 hi 4000
 ctl 1 1000 scheduler remove balance-leader-scheduler > {"done":"Removed"}
 schedule 1 1000 > scheduler balance-region-scheduler none
 lead 2 1000 > won term 2 lo 4001 hi 7001
 ctl 2 1000 scheduler show > {"schedulers":["balance-leader-scheduler","balance-region-scheduler"]}
 schedule 2 1000 > scheduler balance-leader-scheduler none
 ctl 1 1000 scheduler show > {"schedulers":["balance-region-scheduler"]}"#,
-    // examples/pd_ctl.txt
-    r#"lead 1 1000 > won term 1 lo 1000 hi 4000
+        // examples/pd_ctl.txt
+        r#"lead 1 1000 > won term 1 lo 1000 hi 4000
 hello 1 1 1000 a1 zone=z1,disk=ssd > store put
 ctl 1 1001 store > {"count":1,"stores":[{"address":"a1","id":1,"labels":[{"key":"zone","value":"z1"},{"key":"disk","value":"ssd"}],"leader_count":0,"region_count":0,"state_name":"Up"}]}
 hello 2 1 1001 a2 zone=z2 > store put
@@ -194,12 +196,13 @@ ctl 1 1006 scheduler remove balance-region-scheduler > {"fault":"absent"}
 ctl 1 1006 scheduler show > {"schedulers":["balance-leader-scheduler"]}
 ctl 1 1007 member leader resign > {"done":"Resigned"}
 ctl 1 1007 store > not-leading"#,
-];
+    ]
+}
 
 #[test]
 fn worked_rows_are_answered_with_each_drivers_schedulers(rt: HostRuntime) -> Result<(), Fail> {
     let alloc = rt.alloc();
-    for row in ROWS {
+    for row in rows() {
         let script = script_of(alloc, row)?;
         let answers = answers_of(alloc, row)?;
         let mut benches = benches(alloc)?;

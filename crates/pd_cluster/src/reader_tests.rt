@@ -2,7 +2,7 @@
 use crate::lawful_texts::{OPERATORS, PATROL, REGIONS, TERM, TURNS, WRITES};
 use crate::run_reader::Printed;
 use crate::run_tests::{
-    BEHIND_ITS_BACK, BEHIND_ITS_BACK_OUTCOME, STEPS, STEPS_OUTCOME, expect_read,
+    behind_its_back, behind_its_back_outcome, expect_read, steps, steps_outcome,
 };
 use std::process::Abort;
 use std::test::Fail;
@@ -95,7 +95,7 @@ post
         ("5 driver 2", "6 driver 2"),
         ("3 driver 2 lead 2", "3 driver 1 lead 2"),
     ];
-    expect_refused(&rt, BEHIND_ITS_BACK, BEHIND_ITS_BACK_OUTCOME, &rows)?;
+    expect_refused(&rt, behind_its_back(), behind_its_back_outcome(), &rows)?;
     let rows = [
         ("7 popped term 1", "7 popped term 2"),
         ("entry 5 region", "entry 4 region"),
@@ -107,7 +107,7 @@ post
         ),
         ("5 region 7 add-learner", "5 region 7 promote-learner"),
     ];
-    expect_refused(&rt, STEPS, STEPS_OUTCOME, &rows)
+    expect_refused(&rt, steps(), steps_outcome(), &rows)
 }
 
 // Answers of the oracle that don't fit their lines.

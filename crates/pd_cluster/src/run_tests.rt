@@ -1,4 +1,5 @@
 // Scripts by `run`, over a source and a sink in memory.
+// Texts are functions and not constants, which take the check far longer.
 use crate::ctl_tests::{self, benches};
 use crate::lawful_texts;
 use crate::run_reader::Printed;
@@ -202,7 +203,8 @@ post
     )
 }
 
-const TWO_DRIVERS: &str = "\
+fn two_drivers() -> &'static str {
+    "\
 lead 1 1000
 take 1 1 3
 lead 2 500
@@ -214,9 +216,11 @@ hear 1
 take 1 1 1
 tick 1 3999
 take 2 1 1
-";
+"
+}
 
-const TWO_DRIVERS_OUTCOME: &str = "\
+fn two_drivers_outcome() -> &'static str {
+    "\
 window 1 1 1000 4000
 window 2 2 4001 7001
 driver 1
@@ -246,10 +250,12 @@ post
 1 line 6 nothing
 2 line 7 told
 3 line 8 heard 2 1048838145
-";
+"
+}
 
 // A second driver leads behind the first one's back, whose cluster then can't write.
-pub const BEHIND_ITS_BACK: &str = "\
+pub fn behind_its_back() -> &'static str {
+    "\
 lead 1 1000
 hello 1 1 1000 a1
 lead 2 500
@@ -259,9 +265,11 @@ pop 1 1
 take 1 2 1
 ctl 1 1002 member leader resign
 tick 1 1003
-";
+"
+}
 
-pub const BEHIND_ITS_BACK_OUTCOME: &str = "\
+pub fn behind_its_back_outcome() -> &'static str {
+    "\
 window 1 1 1000 4000
 window 2 2 4001 7001
 driver 1
@@ -293,10 +301,12 @@ meta
 4 driver 1 put 1 store/00000000000000000001 old-term 2
 5 driver 2 put 2 store/00000000000000000002 accepted 2
 post
-";
+"
+}
 
 // The same, where the first driver finds the later term at its next save (examples/lost_term_on_threads.txt).
-const LOST_TERM: &str = "\
+fn lost_term() -> &'static str {
+    "\
 lead 1 1000
 hello 1 1 1000 a1
 take 1 1 3
@@ -308,9 +318,11 @@ hello 1 1 1002 a2
 tick 1 3999
 alive 1 1 4000
 take 2 1 1
-";
+"
+}
 
-const LOST_TERM_OUTCOME: &str = "\
+fn lost_term_outcome() -> &'static str {
+    "\
 window 1 1 1000 4000
 window 2 2 4001 7001
 driver 1
@@ -347,10 +359,12 @@ meta
 4 driver 2 put 2 store/00000000000000000002 accepted 2
 5 driver 1 put 1 store/00000000000000000001 old-term 2
 post
-";
+"
+}
 
 // A step is sent again at a heartbeat, and the leader's store takes both.
-pub const STEPS: &str = "\
+pub fn steps() -> &'static str {
+    "\
 lead 1 1000
 hello 1 1 1000 a1
 hello 2 1 1000 a2
@@ -359,9 +373,11 @@ check 1 1000 7
 beat 1 1 1001 7 - - 1 1 11 11:1:v
 pop 1 1
 pop 1 1
-";
+"
+}
 
-pub const STEPS_OUTCOME: &str = "\
+pub fn steps_outcome() -> &'static str {
+    "\
 window 1 1 1000 4000
 driver 1
 1 won term 1 lo 1000 hi 4000
@@ -387,15 +403,16 @@ meta
 3 driver 1 put 1 store/00000000000000000002 accepted 2
 4 driver 1 put 1 id accepted 3
 post
-";
+"
+}
 
 #[test]
 fn outcomes_of_lines_in_their_order_are_as_worked_out(rt: HostRuntime) -> Result<(), Fail> {
     let rows = [
-        (TWO_DRIVERS, TWO_DRIVERS_OUTCOME),
-        (BEHIND_ITS_BACK, BEHIND_ITS_BACK_OUTCOME),
-        (LOST_TERM, LOST_TERM_OUTCOME),
-        (STEPS, STEPS_OUTCOME),
+        (two_drivers(), two_drivers_outcome()),
+        (behind_its_back(), behind_its_back_outcome()),
+        (lost_term(), lost_term_outcome()),
+        (steps(), steps_outcome()),
         lawful_texts::TERM,
         lawful_texts::WRITES,
         lawful_texts::TURNS,
@@ -457,10 +474,10 @@ fn expect_row<R: Threads + Wait + Sync + AllocGlobal + Abort>(
 // regions on five stores whose schedulers move.
 #[test]
 fn lines_in_their_order_are_answered_as_by_replay(rt: HostRuntime) -> Result<(), Fail> {
-    for row in tests::ROWS {
+    for row in tests::rows() {
         expect_row(&rt, row)?;
     }
-    for row in ctl_tests::ROWS {
+    for row in ctl_tests::rows() {
         expect_row(&rt, row)?;
     }
     Ok(())
@@ -522,7 +539,7 @@ pub fn expect_lawful<R: Threads + Wait + Sync + AllocGlobal + Abort, G: Gate + S
 #[test]
 fn a_thousand_runs_of_two_drivers_are_lawful(rt: HostRuntime) -> Result<(), Fail> {
     for _ in 0..1000 {
-        expect_lawful(&rt, TWO_DRIVERS, &OpenGate)?;
+        expect_lawful(&rt, two_drivers(), &OpenGate)?;
     }
     Ok(())
 }
@@ -530,7 +547,7 @@ fn a_thousand_runs_of_two_drivers_are_lawful(rt: HostRuntime) -> Result<(), Fail
 // Which allocation fails is chosen from outside, by `rt try --test --fail-alloc N`.
 #[test]
 fn a_run_without_memory_ends_with_that_or_is_done(rt: HostRuntime) -> Result<(), Fail> {
-    let (ended, _) = play(&rt, rt.alloc(), "run", TWO_DRIVERS, &OpenGate)?;
+    let (ended, _) = play(&rt, rt.alloc(), "run", two_drivers(), &OpenGate)?;
     assert!(rt; ended == Status::NoMemory || ended == Status::Done);
     Ok(())
 }

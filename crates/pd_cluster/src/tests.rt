@@ -1,4 +1,5 @@
 // Whole runs over a source and a sink in memory. The expected answers are worked examples.
+// Texts are functions and not constants, which take the check far longer.
 use crate::status::Status;
 use crate::top::{MAX_BYTES, pd_top};
 use pd_io::{MemSink, MemSource, SureSink, SureSource};
@@ -62,15 +63,16 @@ fn expect<R: Threads + Wait + Sync + Abort>(
 }
 
 // Worked rows. In each line an act stands in front of `>` and its answer.
-pub const ROWS: [&str; 32] = [
-    "\
+pub fn rows() -> [&'static str; 32] {
+    [
+        "\
 lead 1 1000 > won term 1 lo 1000 hi 4000
 hello 1 1 1000 a1 > store put
 lead 2 500 > won term 2 lo 4001 hi 7001
 hello 2 1 1001 a2 > old-term 2
 alive 9 2 1002 > unknown-store
 alive 1 3 1002 > not-leading",
-    "\
+        "\
 lead 1 1000 > won term 1 lo 1000 hi 4000
 hello 1 1 1000 a1 zone=z1 > store put
 resign 1 > resigned
@@ -82,29 +84,29 @@ hello 1 2 5002 a9 > store put
 lead 1 5003 > won term 3 lo 8001 hi 11001
 hello 1 1 5004 a1 > store put
 hello 1 2 5005 a1 > old-term 3",
-    "\
+        "\
 lead 1 1000 > won term 1 lo 1000 hi 4000
 take 1 1 3 > got term 1 driver 1 first 262144001 last 262144003
 tick 1 900 > idle
 tick 2 900 > not-leading
 resign 1 > resigned
 resign 1 > not-leading",
-    "\
+        "\
 lead 1 0 > won term 1 lo 1 hi 3001
 take 1 1 1 > got term 1 driver 1 first 262145 last 262145",
-    "\
+        "\
 lead 1 1000 > won term 1 lo 1000 hi 4000
 take 1 1 262143 > got term 1 driver 1 first 262144001 last 262406143
 take 1 1 1 > again at 262406143 hi 4000 count 1
 tick 1 1000 > moved next 1001 hi 4000
 take 1 1 1 > got term 1 driver 1 first 262406145 last 262406145",
-    "\
+        "\
 lead 1 1000 > won term 1 lo 1000 hi 4000
 tick 1 3999 > moved next 3999 hi 6999",
-    "\
+        "\
 lead 1 1000 > won term 1 lo 1000 hi 4000
 tick 1 3998 > moved next 3998 hi 4000",
-    "\
+        "\
 lead 1 1000 > won term 1 lo 1000 hi 4000
 take 1 1 3 > got term 1 driver 1 first 262144001 last 262144003
 lead 2 500 > won term 2 lo 4001 hi 7001
@@ -116,7 +118,7 @@ hear 1 > heard term 2 last 1048838145
 take 1 1 1 > stale seen 2
 tick 1 3999 > lost saved 7001 term 2
 take 2 1 1 > not-leader",
-    "\
+        "\
 read 1 1000 > cell saved 0 term 0
 read 2 2000 > cell saved 0 term 0
 campaign 2 > claimed term 1
@@ -129,7 +131,7 @@ save 1 > saved hi 4000
 raise 1 > raised cursor 262144000
 publish 1 > published hi 4000
 raise 1 > out-of-turn expected rest",
-    "\
+        "\
 lead 1 1000 > won term 1 lo 1000 hi 4000
 take 1 1 262000 > got term 1 driver 1 first 262144001 last 262406000
 look 1 1 > looked term 1 hi 4000
@@ -139,7 +141,7 @@ arm 2 100 > armed at 262406000
 draw 1 > got term 1 driver 1 first 262406001 last 262406100
 draw 2 > again at 262406100 hi 4000 count 100
 take 2 1 1 > got term 1 driver 1 first 262406201 last 262406201",
-    "\
+        "\
 lead 1 1000 > won term 1 lo 1000 hi 4000
 look 1 1 > looked term 1 hi 4000
 arm 1 5 > armed at 262144000
@@ -147,21 +149,21 @@ lead 2 1500 > won term 2 lo 4001 hi 7001
 lead 1 1600 > won term 3 lo 7002 hi 10002
 draw 1 > again at 1835532288 hi 4000 count 5
 take 1 1 1 > got term 3 driver 1 first 1835532294 last 1835532294",
-    "\
+        "\
 cell 5 262142 > cell saved 5 term 262142
 lead 1 0 > won term 262143 lo 6 hi 3006
 lead 1 0 > terms-spent",
-    "\
+        "\
 lead 1 35184372085832 > clock-range
 lead 1 35184372085831 > won term 1 lo 35184372085831 hi 35184372088831
 take 1 1 1 > got term 1 driver 1 first 9223372036068081665 last 9223372036068081665",
-    "\
+        "\
 probe 1 900 > not-leading
 lead 1 1000 > won term 1 lo 1000 hi 4000
 probe 1 2000 > probed cursor 262144000
 tick 1 2000 > out-of-turn expected raise
 raise 1 > raised cursor 524288000",
-    "\
+        "\
 lead 1 1000 > won term 1 lo 1000 hi 4000
 look 1 1 > looked term 1 hi 4000
 draw 1 > out-of-turn expected arm
@@ -170,7 +172,7 @@ tell 1 1 > out-of-turn expected arm
 arm 1 2 > armed at 262144000
 hear 1 > out-of-turn expected draw
 draw 1 > got term 1 driver 1 first 262144001 last 262144002",
-    "\
+        "\
 read 1 1000 > cell saved 0 term 0
 lead 1 1000 > out-of-turn expected campaign
 campaign 1 > claimed term 1
@@ -179,17 +181,17 @@ save 1 > saved hi 4000
 publish 1 > out-of-turn expected raise
 raise 1 > raised cursor 262144000
 raise 1 > out-of-turn expected publish",
-    "\
+        "\
 lead 7 70368744177663 > clock-range
 take 64 7 262143 > not-leader",
-    "\
+        "\
 lead 1 1000 > won term 1 lo 1000 hi 4000
 beat 1 1 1000 7 - 40 1 6 11 11:1:v > accepted removed 0 none
 beat 1 1 1001 8 20 60 1 5 21 21:1:v > stale conf 1 version 6
 beat 1 1 1002 9 40 - 1 6 31 31:1:v > accepted removed 0 none
 beat 1 1 1003 10 - - 1 7 41 41:1:v > accepted removed 2 none
 beat 1 1 1004 11 - - 1 8 51 52:1:v > bad 5",
-    "\
+        "\
 lead 1 1000 > won term 1 lo 1000 hi 4000
 hello 1 1 1000 a1 > store put
 hello 2 1 1000 a2 > store put
@@ -199,7 +201,7 @@ alive 1 1 21001 > alive
 alive 4 1 21001 > unknown-store
 alive 1 2 21001 > not-leading
 hello 1 2 21001 a1 zone=z1 > not-leading",
-    "\
+        "\
 read 1 1000 > cell saved 0 term 0
 campaign 1 > claimed term 1
 save 1 > saved hi 4000
@@ -217,15 +219,15 @@ alive 1 1 1000 > not-leading
 lead 1 1000 > won term 2 lo 7000 hi 10000
 alive 1 1 1000 > alive
 alive 2 1 1000 > unknown-store",
-    "\
+        "\
 lead 1 1000 > won term 1 lo 1000 hi 4000
 lead 2 1000 > won term 2 lo 4001 hi 7001
 hello 1 1 1000 a1 > old-term 2
 tick 1 3999 > lost saved 7001 term 2
 alive 1 1 1000 > not-leading
 alive 1 2 1000 > unknown-store",
-    // examples/clock_steps_back.txt
-    "\
+        // examples/clock_steps_back.txt
+        "\
 lead 1 1000 > won term 1 lo 1000 hi 4000
 take 1 1 3 > got term 1 driver 1 first 262144001 last 262144003
 tick 1 900 > idle
@@ -235,8 +237,8 @@ take 1 1 1 > got term 2 driver 1 first 1048838145 last 1048838145
 tick 1 4002 > idle
 tick 1 4003 > moved next 4003 hi 7001
 take 1 1 1 > got term 2 driver 1 first 1049362433 last 1049362433",
-    // examples/lost_term_on_threads.txt
-    "\
+        // examples/lost_term_on_threads.txt
+        "\
 lead 1 1000 > won term 1 lo 1000 hi 4000
 hello 1 1 1000 a1 > store put
 take 1 1 3 > got term 1 driver 1 first 262144001 last 262144003
@@ -248,8 +250,8 @@ hello 1 1 1002 a2 > old-term 2
 tick 1 3999 > lost saved 7001 term 2
 alive 1 1 4000 > not-leading
 take 2 1 1 > not-leader",
-    // examples/stale_heartbeat.txt
-    "\
+        // examples/stale_heartbeat.txt
+        "\
 lead 1 1000 > won term 1 lo 1000 hi 4000
 hello 1 1 1000 tikv-1:20160 zone=east > store put
 beat 1 1 1001 1 - - 1 1 11 11:1:v > accepted removed 0 none
@@ -257,7 +259,7 @@ beat 1 1 1002 1 - 6d 1 2 11 11:1:v > accepted removed 0 none
 beat 1 1 1003 2 6d - 1 2 21 21:1:v > accepted removed 0 none
 beat 1 1 1004 1 - - 1 1 11 11:1:v > stale conf 1 version 2
 beat 1 1 1005 2 - - 1 3 21 21:1:v > accepted removed 1 none",
-    "\
+        "\
 lead 1 1000 > won term 1 lo 1000 hi 4000
 hello 1 1 1000 a1 > store put
 hello 2 1 1000 a2 > store put
@@ -270,8 +272,8 @@ unrule 1 1000 pd y > absent
 unrule 1 1000 pd x > rule removed
 unrule 1 1000 pd default > last-rule
 unrule 2 1000 pd x > not-leading",
-    // The first other rule stores the default rule too, so the next term knows both.
-    "\
+        // The first other rule stores the default rule too, so the next term knows both.
+        "\
 lead 1 1000 > won term 1 lo 1000 hi 4000
 rule 1 1000   {\"group_id\": \"pd\", \"id\": \"x\", \"role\": \"voter\", \"count\": 1}   > rule set
 lead 2 500 > won term 2 lo 4001 hi 7001
@@ -280,8 +282,8 @@ unrule 2 501 pd default > rule removed
 unrule 2 502 pd x > last-rule
 lead 1 1002 > won term 3 lo 7002 hi 10002
 unrule 1 1003 pd default > absent",
-    // Equal totals, no fit.
-    "\
+        // Equal totals, no fit.
+        "\
 lead 1 1000 > won term 1 lo 1000 hi 4000
 hello 1 1 1000 a1 zone=z1 > store put
 hello 2 1 1000 a2 zone=z2 > store put
@@ -290,8 +292,8 @@ rule 1 1000 {\"group_id\":\"pd\",\"id\":\"B\",\"role\":\"voter\",\"count\":1,\"l
 unrule 1 1000 pd default > rule removed
 beat 1 1 1000 7 - - 1 1 11 11:1:v,12:2:v > accepted removed 0 none
 check 1 1000 7 > no-plan from 2",
-    // A peer that is Down is replaced.
-    "\
+        // A peer that is Down is replaced.
+        "\
 lead 1 1000 > won term 1 lo 1000 hi 4000
 hello 1 1 1000 a1 zone=z1 > store put
 hello 2 1 1000 a2 zone=z2 > store put
@@ -314,8 +316,8 @@ check 1 1801004 7 > no-fault
 check 1 1801004 8 > no-region
 check 2 1801004 7 > not-leading
 patrol 2 1801004 1 > not-leading",
-    // What waits for a store outlives its term; each store and each driver has its own.
-    "\
+        // What waits for a store outlives its term; each store and each driver has its own.
+        "\
 pop 1 1 > empty
 lead 1 1000 > won term 1 lo 1000 hi 4000
 hello 1 1 1000 a1 > store put
@@ -330,8 +332,8 @@ pop 1 2 > empty
 pop 1 1 > popped term 1 entry 5 region 7 add-learner peer 1000001 store 2
 pop 1 1 > popped term 1 entry 6 region 7 add-learner peer 1000001 store 2
 pop 1 1 > empty",
-    // Five stores in three zones, eight regions on three of them: nothing is to be done.
-    "\
+        // Five stores in three zones, eight regions on three of them: nothing is to be done.
+        "\
 lead 1 1000 > won term 1 lo 1000 hi 4000
 hello 1 1 1000 s1 zone=z1 > store put
 hello 2 1 1000 s2 zone=z1 > store put
@@ -347,8 +349,8 @@ beat 1 1 1000 6 a0 c0 1 1 61 61:1:v,62:3:v,63:5:v > accepted removed 0 none
 beat 1 1 1000 7 c0 e0 1 1 71 71:1:v,72:3:v,73:5:v > accepted removed 0 none
 beat 1 1 1000 8 e0 - 1 1 81 81:1:v,82:3:v,83:5:v > accepted removed 0 none
 patrol 1 1001 4 > patrol regions 8 ok 8 split 0 plan 0 no-plan 0 added 0 buried 0",
-    // A driver whose term is over has no ids.
-    "\
+        // A driver whose term is over has no ids.
+        "\
 lead 1 1000 > won term 1 lo 1000 hi 4000
 hello 1 1 1000 a1 > store put
 hello 2 1 1000 a2 > store put
@@ -356,8 +358,9 @@ beat 1 1 1000 7 - - 1 1 11 11:1:v > accepted removed 0 none
 lead 2 500 > won term 2 lo 4001 hi 7001
 check 1 1000 7 > plan add-voter from 2 to 1 old-term 2
 patrol 1 1000 16 > patrol regions 1 ok 0 split 0 plan 1 no-plan 0 added 0 buried 0",
-    "",
-];
+        "",
+    ]
+}
 
 // The script of a row.
 pub fn script_of(alloc: Global, row: &str) -> Result<String, Fail> {
@@ -388,7 +391,7 @@ pub fn answers_of(alloc: Global, row: &str) -> Result<String, Fail> {
 #[test]
 fn worked_rows_are_answered_with_ample_memory(rt: HostRuntime) -> Result<(), Fail> {
     let alloc = rt.alloc();
-    for row in ROWS {
+    for row in rows() {
         let script = script_of(alloc, row)?;
         let answers = answers_of(alloc, row)?;
         expect(&rt, alloc, script.as_str(), Status::Done, answers.as_str())?;

@@ -1,4 +1,5 @@
 // Schedulers' turns and pd-ctl's commands, by scripts with typed answers.
+// Texts are functions and not constants, which take the check far longer.
 use crate::scripts::Scene;
 use heartbeat::Standing;
 use pd_types::{Ids, NoMemory, Proposal, Seq, Text};
@@ -127,7 +128,8 @@ fn bench_of(alloc: Global, rows: &[(&str, &[Proposal])]) -> Result<Bench, Fail> 
 }
 
 // Stale and overlapping heartbeats, whose region is reported.
-const REGIONS: &str = r#"term 1 1000 => term 1 stores 0 rules 1
+fn regions() -> &'static str {
+    r#"term 1 1000 => term 1 stores 0 rules 1
 beat 1000 7 - 40 1 6 11 11:1:v => accepted removed 0 none
 beat 1001 8 20 60 1 5 21 21:1:v => stale conf 1 version 6
 beat 1002 9 40 - 1 6 31 31:1:v => accepted removed 0 none
@@ -136,30 +138,36 @@ beat 1004 11 - - 1 8 51 52:1:v => bad 5
 ctl 1004 region 10 => {"conf_ver":1,"end_key":"","id":10,"leader":41,"peers":[{"id":41,"role":"Voter","store_id":1}],"start_key":"","version":7}
 ctl 1004 region key 20 => {"conf_ver":1,"end_key":"","id":10,"leader":41,"peers":[{"id":41,"role":"Voter","store_id":1}],"start_key":"","version":7}
 ctl 1004 region 7 => {"fault":"no-region"}
-"#;
+"#
+}
 
 // A removal that would leave no majority is held.
-const HELD: &str = r#"term 1 1000 => term 1 stores 0 rules 1
+fn held() -> &'static str {
+    r#"term 1 1000 => term 1 stores 0 rules 1
 hello 1 1000 a1 => store put
 hello 2 1000 a2 => store put
 hello 3 1000 a3 => store put
 beat 1000 7 - - 1 1 11 11:1:v,12:2:v,13:3:v => accepted removed 0 none
 alive 1 21001 => alive
 ctl 21001 operator add remove-peer 7 3 => {"added":1,"now":"held before live 1 of 3"}
-"#;
+"#
+}
 
 // The same a millisecond earlier is sent.
-const SENT: &str = r#"term 1 1000 => term 1 stores 0 rules 1
+fn sent() -> &'static str {
+    r#"term 1 1000 => term 1 stores 0 rules 1
 hello 1 1000 a1 => store put
 hello 2 1000 a2 => store put
 hello 3 1000 a3 => store put
 beat 1000 7 - - 1 1 11 11:1:v,12:2:v,13:3:v => accepted removed 0 none
 alive 1 21000 => alive
 ctl 21000 operator add remove-peer 7 3 => {"added":1,"now":"send remove-peer peer 13 store 3"}
-"#;
+"#
+}
 
 // A leader's peer is moved by hand.
-const MOVED: &str = r#"term 1 1000 => term 1 stores 0 rules 1
+fn moved() -> &'static str {
+    r#"term 1 1000 => term 1 stores 0 rules 1
 hello 1 1000 a1 => store put
 hello 2 1000 a2 => store put
 hello 3 1000 a3 => store put
@@ -168,10 +176,12 @@ beat 1000 7 - - 1 1 11 11:1:v,12:2:v,13:3:v => accepted removed 0 none
 ctl 1000 operator add transfer-peer 7 1 4 => {"added":4,"now":"send add-learner peer 1000001 store 4"}
 ctl 1000 operator show => {"operators":[{"kind":"admin","region":7,"state":"Started","step":0,"steps":["add-learner peer 1000001 store 4","promote-learner peer 1000001 store 4","transfer-leader peer 12 store 2","remove-peer peer 11 store 1"]}]}
 ctl 1000 operator add transfer-peer 7 1 4 => {"fault":"busy 3"}
-"#;
+"#
+}
 
 // Each command of pd-ctl, and its faults.
-const COMMANDS: &str = r#"ctl 1000 store => not-leading
+fn commands() -> &'static str {
+    r#"ctl 1000 store => not-leading
 term 1 1000 => term 1 stores 0 rules 1
 hello 1 1000 a1 zone=z1 => store put
 hello 2 1000 a2 => store put
@@ -218,10 +228,12 @@ ctl 5000 tso 395181938313123110 => {"logical":120102,"physical":1507499459507}
 ctl 5000 pd-ctl => {"fault":"unknown"}
 ctl 5000 member leader resign => {"done":"Resigned"}
 ctl 5000 member leader resign => not-leading
-"#;
+"#
+}
 
 // A deleted store without peers is buried, and a tombstone isn't deleted.
-const BURIED: &str = r#"term 1 1000 => term 1 stores 0 rules 1
+fn buried() -> &'static str {
+    r#"term 1 1000 => term 1 stores 0 rules 1
 hello 1 1000 a1 => store put
 hello 2 1000 a2 => store put
 rule 1000 {"group_id":"pd","id":"default","role":"voter","count":1} => rule set
@@ -230,11 +242,13 @@ ctl 1000 store delete 2 => {"done":"Offline"}
 patrol 1000 1 => patrol regions 1 ok 1 split 0 plan 0 no-plan 0 added 0 buried 1
 ctl 1000 store delete 2 => {"fault":"tombstone"}
 ctl 1000 store 2 => {"address":"a2","id":2,"labels":[],"leader_count":0,"region_count":0,"state_name":"Tombstone"}
-"#;
+"#
+}
 
 // The first driver's term is over, and its hello isn't written; the second one's stores are those that
 // were stored.
-const TWO_DRIVERS: &str = r#"term 1 1000 => term 1 stores 0 rules 1
+fn two_drivers() -> &'static str {
+    r#"term 1 1000 => term 1 stores 0 rules 1
 hello 1 1000 a1 => store put
 other => turned
 term 2 500 => term 2 stores 1 rules 1
@@ -244,10 +258,12 @@ ctl 1001 store delete 1 => {"fault":"old-term 2"}
 other => turned
 ctl 1002 store => {"count":1,"stores":[{"address":"a1","id":1,"labels":[],"leader_count":0,"region_count":0,"state_name":"Disconnected"}]}
 alive 9 1002 => unknown-store
-"#;
+"#
+}
 
 // What a wish by hand meets: no peer to take away, no target, a peer that is there, and a limit.
-const WISHES: &str = r#"term 1 1000 => term 1 stores 0 rules 1
+fn wishes() -> &'static str {
+    r#"term 1 1000 => term 1 stores 0 rules 1
 hello 1 1000 a1 => store put
 hello 2 1000 a2 => store put
 hello 3 1000 a3 => store put
@@ -261,10 +277,12 @@ ctl 1000 operator add transfer-peer 8 1 2 => {"fault":"has-peer"}
 ctl 1000 operator add add-peer 7 2 => {"added":2,"now":"send add-learner peer 1000001 store 2"}
 ctl 1000 store limit 3 0 add-peer => {"done":"Limit"}
 ctl 1000 operator add add-peer 8 3 => {"fault":"limited available 0 needed 60000"}
-"#;
+"#
+}
 
 // Another driver wrote the record of the store and that of the ids, and then its term is later.
-const OVERWRITTEN: &str = r#"term 1 1000 => term 1 stores 0 rules 1
+fn overwritten() -> &'static str {
+    r#"term 1 1000 => term 1 stores 0 rules 1
 hello 1 1000 a1 => store put
 hello 2 1000 a2 => store put
 beat 1000 7 - - 1 1 11 11:1:v => accepted removed 0 none
@@ -274,29 +292,35 @@ keep id 1001000 => kept
 ctl 1000 operator add add-peer 7 2 => {"fault":"conflict 4"}
 outdate => outdated
 ctl 1000 operator add add-peer 7 2 => {"fault":"old-term 5"}
-"#;
+"#
+}
 
 // The metadata takes no more calls.
-const FULL: &str = r#"term 1 1000 => term 1 stores 0 rules 1
+fn full() -> &'static str {
+    r#"term 1 1000 => term 1 stores 0 rules 1
 hello 1 1000 a1 => store put
 hello 2 1000 a2 => store put
 beat 1000 7 - - 1 1 11 11:1:v => accepted removed 0 none
 exhaust => exhausted
 ctl 1000 store delete 2 => {"fault":"meta-limit"}
 ctl 1000 operator add add-peer 7 2 => {"fault":"meta-limit"}
-"#;
+"#
+}
 
 // No window of ids is left behind this one.
-const SPENT: &str = r#"keep id 9223372036854775000 => kept
+fn spent() -> &'static str {
+    r#"keep id 9223372036854775000 => kept
 term 2 1000 => term 2 stores 0 rules 1
 hello 1 1000 a1 => store put
 hello 2 1000 a2 => store put
 beat 1000 7 - - 1 1 11 11:1:v => accepted removed 0 none
 ctl 1000 operator add add-peer 7 2 => {"fault":"ids-spent"}
-"#;
+"#
+}
 
 // A majority is live, and wouldn't be once the peer is gone; nor is the target.
-const LOSING: &str = r#"term 1 1000 => term 1 stores 0 rules 1
+fn losing() -> &'static str {
+    r#"term 1 1000 => term 1 stores 0 rules 1
 hello 1 1000 a1 => store put
 hello 2 1000 a2 => store put
 hello 3 1000 a3 => store put
@@ -306,24 +330,25 @@ alive 1 21001 => alive
 alive 2 21001 => alive
 ctl 21001 operator add remove-peer 7 2 => {"added":1,"now":"held after live 1 of 2"}
 ctl 21001 operator add transfer-leader 8 3 => {"added":1,"now":"held target live 2 of 3"}
-"#;
+"#
+}
 
 #[test]
 fn commands_of_pd_ctl_are_carried_out(rt: HostRuntime) -> Result<(), Fail> {
     let alloc = rt.alloc();
     let scripts = [
-        REGIONS,
-        HELD,
-        SENT,
-        MOVED,
-        COMMANDS,
-        BURIED,
-        TWO_DRIVERS,
-        WISHES,
-        OVERWRITTEN,
-        FULL,
-        SPENT,
-        LOSING,
+        regions(),
+        held(),
+        sent(),
+        moved(),
+        commands(),
+        buried(),
+        two_drivers(),
+        wishes(),
+        overwritten(),
+        full(),
+        spent(),
+        losing(),
     ];
     for lines in scripts {
         Scene::new(alloc).play(&rt, alloc, lines)?;
@@ -332,7 +357,8 @@ fn commands_of_pd_ctl_are_carried_out(rt: HostRuntime) -> Result<(), Fail> {
 }
 
 // Turns go round the list; nothing is believed of a proposal, and a wish has its faults.
-const TURNS: &str = r#"schedule 1000 => not-leading
+fn turns() -> &'static str {
+    r#"schedule 1000 => not-leading
 term 1 1000 => term 1 stores 0 rules 1
 hello 1 1000 a1 => store put
 hello 2 1000 a2 => store put
@@ -359,7 +385,8 @@ schedule 21002 => scheduler two none
 ctl 21002 scheduler remove two => {"done":"Removed"}
 schedule 21002 => no-scheduler
 ctl 21002 scheduler show => {"schedulers":[]}
-"#;
+"#
+}
 
 #[test]
 fn schedulers_propose_in_turn(rt: HostRuntime) -> Result<(), Fail> {
@@ -385,11 +412,12 @@ fn schedulers_propose_in_turn(rt: HostRuntime) -> Result<(), Fail> {
         Proposal::MoveLeader { region: 7, to: 2 },
     ];
     let bench = bench_of(alloc, &[("one", &one), ("two", &two)])?;
-    Scene::of(alloc, bench).play(&rt, alloc, TURNS)
+    Scene::of(alloc, bench).play(&rt, alloc, turns())
 }
 
 // Region 1 is proposed until its operator is added, and then region 2.
-const TOLD: &str = r#"term 1 1000 => term 1 stores 0 rules 1
+fn told() -> &'static str {
+    r#"term 1 1000 => term 1 stores 0 rules 1
 hello 1 1000 a1 => store put
 hello 2 1000 a2 => store put
 hello 3 1000 a3 => store put
@@ -398,7 +426,8 @@ beat 1000 1 - 40 1 1 11 11:1:v,12:2:v,13:3:v => accepted removed 0 none
 beat 1000 2 40 - 1 1 21 21:1:v,22:2:v,23:3:v => accepted removed 0 none
 schedule 1000 => scheduler patient drop-peer region 1 store 3 send remove-peer peer 13 store 3
 schedule 1000 => scheduler patient drop-peer region 2 store 3 send remove-peer peer 23 store 3
-"#;
+"#
+}
 
 #[test]
 fn a_scheduler_is_told_what_became_of_its_proposal(rt: HostRuntime) -> Result<(), Fail> {
@@ -413,11 +442,12 @@ fn a_scheduler_is_told_what_became_of_its_proposal(rt: HostRuntime) -> Result<()
     };
     let mut list: Vec<Box<dyn Scheduler + Send>> = Vec::new(alloc);
     list.push(Box::new(alloc, patient)?)?;
-    Scene::of(alloc, Bench::of(alloc, list)).play(&rt, alloc, TOLD)
+    Scene::of(alloc, Bench::of(alloc, list)).play(&rt, alloc, told())
 }
 
 // What a scheduler proposes would lose the majority, so its step is held.
-const STUBBORN: &str = r#"term 1 1000 => term 1 stores 0 rules 1
+fn stubborn() -> &'static str {
+    r#"term 1 1000 => term 1 stores 0 rules 1
 hello 1 1000 a1 => store put
 hello 2 1000 a2 => store put
 hello 3 1000 a3 => store put
@@ -426,7 +456,8 @@ alive 1 21001 => alive
 alive 2 21001 => alive
 schedule 21001 => scheduler stubborn drop-peer region 7 store 2 held after live 1 of 2
 beat 21001 7 - - 1 1 11 11:1:v,12:2:v,13:3:v => accepted removed 0 held after live 1 of 2
-"#;
+"#
+}
 
 #[test]
 fn a_proposal_that_would_lose_the_majority_is_held(rt: HostRuntime) -> Result<(), Fail> {
@@ -436,5 +467,5 @@ fn a_proposal_that_would_lose_the_majority_is_held(rt: HostRuntime) -> Result<()
         store: 2,
     }];
     let bench = bench_of(alloc, &[("stubborn", &proposals)])?;
-    Scene::of(alloc, bench).play(&rt, alloc, STUBBORN)
+    Scene::of(alloc, bench).play(&rt, alloc, stubborn())
 }
