@@ -4,6 +4,7 @@ use crate::{
 };
 use pd_types::{Bytes, Label, Labels, NoMemory, StoreRec, StoreState, Text};
 use std::alloc::Global;
+use std::process::Abort;
 use std::test::Fail;
 
 // Whether a call is made whole, or there is no memory for it and neither an entry nor a record
@@ -135,50 +136,131 @@ fn a_deleted_key_is_not_handed_out(rt: HostRuntime) -> Result<(), Fail> {
     Ok(())
 }
 
-#[test]
-fn a_door_is_asked_and_answers(rt: HostRuntime) -> Result<(), Fail> {
-    let alloc = rt.alloc();
-    let mut meta = Meta::new(alloc);
-    let put = ask_put(alloc, &mut meta, 1, 1, key_of(alloc)?, 0, key_of(alloc)?)?;
-    assert_eq!(rt; put.verdict, MetaVerdict::Accepted { revision: 1 });
-    let lead = ask_lead(alloc, &mut meta, 2, 3)?;
-    assert_eq!(rt; lead.verdict, MetaVerdict::Accepted { revision: 0 });
-    assert_eq!(rt; lead.cells.len(), 1);
-    let old = ask_delete(alloc, &mut meta, 1, 1, key_of(alloc)?, 1)?;
-    assert_eq!(rt; old.verdict, MetaVerdict::OldTerm { fence: 3 });
-    let conflict = ask_put(alloc, &mut meta, 2, 3, key_of(alloc)?, 7, key_of(alloc)?)?;
-    assert_eq!(rt; conflict.verdict, MetaVerdict::Conflict { found: 1 });
-    let gone = ask_delete(alloc, &mut meta, 2, 3, key_of(alloc)?, 1)?;
-    assert_eq!(rt; gone.verdict, MetaVerdict::Accepted { revision: 2 });
+// What a write of the key `a` is answered.
+fn put(
+    alloc: Global,
+    meta: &mut Meta,
+    driver: u8,
+    term: u64,
+    expected: u64,
+) -> Result<MetaVerdict, Fail> {
+    let answer = ask_put(
+        alloc,
+        meta,
+        driver,
+        term,
+        key_of(alloc)?,
+        expected,
+        key_of(alloc)?,
+    )?;
+    Ok(answer.verdict)
+}
+
+// What a deletion of the key `a` at revision 1 is answered.
+fn delete(alloc: Global, meta: &mut Meta, driver: u8, term: u64) -> Result<MetaVerdict, Fail> {
+    Ok(ask_delete(alloc, meta, driver, term, key_of(alloc)?, 1)?.verdict)
+}
+
+// What a lead is answered, and how many records it is handed.
+fn lead(
+    alloc: Global,
+    meta: &mut Meta,
+    driver: u8,
+    term: u64,
+) -> Result<(MetaVerdict, usize), Fail> {
+    let answer = ask_lead(alloc, meta, driver, term)?;
+    Ok((answer.verdict, answer.cells.len()))
+}
+
+fn expect_verdicts(rt: &impl Abort, alloc: Global, meta: &mut Meta) -> Result<(), Fail> {
+    assert_eq!(rt;
+        put(alloc, meta, 1, 1, 0)?,
+        MetaVerdict::Accepted { revision: 1 }
+    );
+    assert_eq!(rt;
+        lead(alloc, meta, 2, 3)?,
+        (MetaVerdict::Accepted { revision: 0 }, 1)
+    );
+    assert_eq!(rt;
+        delete(alloc, meta, 1, 1)?,
+        MetaVerdict::OldTerm { fence: 3 }
+    );
+    assert_eq!(rt;
+        put(alloc, meta, 2, 3, 7)?,
+        MetaVerdict::Conflict { found: 1 }
+    );
+    assert_eq!(rt;
+        delete(alloc, meta, 2, 3)?,
+        MetaVerdict::Accepted { revision: 2 }
+    );
     assert_eq!(rt; meta.journal().len(), 5);
     Ok(())
 }
 
-// A lead hands one record out; then come a write of it, one of another key, a deletion and a refused
-// write. In each row the revisions that are known of the keys `a` and `b` after the call.
+#[test]
+fn a_door_is_asked_and_answers(rt: HostRuntime) -> Result<(), Fail> {
+    expect_verdicts(&rt, rt.alloc(), &mut Meta::new(rt.alloc()))
+}
+
+// A write of a key at an expected revision, of which the driver hears.
+fn hear_put(
+    alloc: Global,
+    meta: &mut Meta,
+    known: &mut Known,
+    key: &[u8],
+    expected: u64,
+) -> Result<(), Fail> {
+    let key = Bytes::of(key.to_vec(alloc)?);
+    let put = ask_put(alloc, meta, 1, 2, key, expected, key_of(alloc)?)?;
+    known.hear(alloc, &put)?;
+    Ok(())
+}
+
+// A lead, of which it hears.
+fn hear_lead(alloc: Global, meta: &mut Meta, known: &mut Known) -> Result<(), Fail> {
+    let lead = ask_lead(alloc, meta, 1, 2)?;
+    known.hear(alloc, &lead)?;
+    Ok(())
+}
+
+// A deletion of the key `a` at revision 2, of which it hears.
+fn hear_delete(alloc: Global, meta: &mut Meta, known: &mut Known) -> Result<(), Fail> {
+    let gone = ask_delete(alloc, meta, 1, 2, key_of(alloc)?, 2)?;
+    known.hear(alloc, &gone)?;
+    Ok(())
+}
+
+// The revisions that are known of the keys `a` and `b`.
+fn revisions(known: &Known) -> (u64, u64) {
+    (known.revision(b"a"), known.revision(b"b"))
+}
+
+// A lead hands one record out; then come a write of it, one of another key, a refused write and a deletion.
+// Behind each stand the revisions that are known after the call.
+fn expect_known(
+    rt: &impl Abort,
+    alloc: Global,
+    meta: &mut Meta,
+    known: &mut Known,
+) -> Result<(), Fail> {
+    assert_eq!(rt; meta.put_if(1, 0, b"a", 0, b"x"), Ok(1));
+    hear_lead(alloc, meta, known)?;
+    assert_eq!(rt; revisions(known), (1, 0));
+    hear_put(alloc, meta, known, b"a", 1)?;
+    assert_eq!(rt; revisions(known), (2, 0));
+    hear_put(alloc, meta, known, b"b", 0)?;
+    assert_eq!(rt; revisions(known), (2, 3));
+    hear_put(alloc, meta, known, b"b", 0)?;
+    assert_eq!(rt; revisions(known), (2, 3));
+    hear_delete(alloc, meta, known)?;
+    assert_eq!(rt; revisions(known), (0, 3));
+    Ok(())
+}
+
 #[test]
 fn a_driver_knows_what_it_heard(rt: HostRuntime) -> Result<(), Fail> {
     let alloc = rt.alloc();
-    let mut meta = Meta::new(alloc);
-    let mut known = Known::new(alloc);
-    assert_eq!(rt; meta.put_if(1, 0, b"a", 0, b"x"), Ok(1));
-    let lead = ask_lead(alloc, &mut meta, 1, 2)?;
-    known.hear(alloc, &lead)?;
-    assert_eq!(rt; (known.revision(b"a"), known.revision(b"b")), (1, 0));
-    let rows: [(&[u8], u64, u64, u64); 3] = [(b"a", 1, 2, 0), (b"b", 0, 2, 3), (b"b", 0, 2, 3)];
-    for (key, expected, first, second) in rows {
-        let key = Bytes::of(key.to_vec(alloc)?);
-        let put = ask_put(alloc, &mut meta, 1, 2, key, expected, key_of(alloc)?)?;
-        known.hear(alloc, &put)?;
-        assert_eq!(rt;
-            (known.revision(b"a"), known.revision(b"b")),
-            (first, second)
-        );
-    }
-    let gone = ask_delete(alloc, &mut meta, 1, 2, key_of(alloc)?, 2)?;
-    known.hear(alloc, &gone)?;
-    assert_eq!(rt; (known.revision(b"a"), known.revision(b"b")), (0, 3));
-    Ok(())
+    expect_known(&rt, alloc, &mut Meta::new(alloc), &mut Known::new(alloc))
 }
 
 fn key_of(alloc: Global) -> Result<Bytes, NoMemory> {
