@@ -115,6 +115,19 @@ fn fitted(
     Ok(Some(fit(alloc, beat, rules, stores, 20)?))
 }
 
+// A rule for one peer of this role on any store, and one for a voter in zone z1.
+fn beside_zone(alloc: Global, role: RuleRole) -> Result<Rules, Fail> {
+    let mut rules = Rules::new(alloc);
+    rules.push(rule(alloc, role, 1, Constraints::new(alloc))?)?;
+    rules.push(rule(
+        alloc,
+        RuleRole::Voter,
+        1,
+        constraint(alloc, "zone", Op::In, "z1")?,
+    )?)?;
+    Ok(rules)
+}
+
 // A leader rule of one and a follower rule of one in zone z1: both peers are there, but the second
 // suits neither. The totals agree and there is no fit; the certificate is the second peer.
 #[test]
@@ -122,14 +135,7 @@ fn equal_totals_do_not_fit(rt: HostRuntime) -> Result<(), Fail> {
     let alloc = rt.alloc();
     let stores = three_stores(alloc)?;
     let beat = region(alloc, &[Role::Voter, Role::Voter])?;
-    let mut rules = Rules::new(alloc);
-    rules.push(rule(alloc, RuleRole::Leader, 1, Constraints::new(alloc))?)?;
-    rules.push(rule(
-        alloc,
-        RuleRole::Voter,
-        1,
-        constraint(alloc, "zone", Op::In, "z1")?,
-    )?)?;
+    let rules = beside_zone(alloc, RuleRole::Leader)?;
     assert!(rt; beat.region.peers.len() <= 15);
     assert!(rt; rules.len() <= 64);
     let Some(answer) = fitted(alloc, &beat, &rules, &stores)? else {
@@ -232,14 +238,7 @@ fn a_path_moves_a_peer(rt: HostRuntime) -> Result<(), Fail> {
     let alloc = rt.alloc();
     let stores = three_stores(alloc)?;
     let beat = region(alloc, &[Role::Voter, Role::Voter])?;
-    let mut rules = Rules::new(alloc);
-    rules.push(rule(alloc, RuleRole::Voter, 1, Constraints::new(alloc))?)?;
-    rules.push(rule(
-        alloc,
-        RuleRole::Voter,
-        1,
-        constraint(alloc, "zone", Op::In, "z1")?,
-    )?)?;
+    let rules = beside_zone(alloc, RuleRole::Voter)?;
     assert!(rt; beat.region.peers.len() <= 15);
     assert!(rt; rules.len() <= 64);
     let Some(answer) = fitted(alloc, &beat, &rules, &stores)? else {
