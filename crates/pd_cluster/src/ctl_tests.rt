@@ -1,6 +1,5 @@
 // Scripts with schedulers and with commands of pd-ctl, over a source and a sink in memory. The expected
 // answers are worked examples.
-// Texts are functions and not constants, which take the check far longer.
 use crate::status::Status;
 use crate::tests::{answers_of, expect_with, script_of};
 use balance_sched::{BalanceLeader, BalanceRegion};

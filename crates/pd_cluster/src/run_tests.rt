@@ -1,5 +1,4 @@
 // Scripts by `run`, over a source and a sink in memory.
-// Texts are functions and not constants, which take the check far longer.
 use crate::ctl_tests::{self, benches};
 use crate::lawful_texts;
 use crate::run_reader::Printed;

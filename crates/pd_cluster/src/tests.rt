@@ -1,5 +1,4 @@
 // Whole runs over a source and a sink in memory. The expected answers are worked examples.
-// Texts are functions and not constants, which take the check far longer.
 use crate::status::Status;
 use crate::top::{MAX_BYTES, pd_top};
 use pd_io::{MemSink, MemSource, SureSink, SureSource};

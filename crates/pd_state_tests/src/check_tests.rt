@@ -1,5 +1,4 @@
 // The checker, the patrol and the operators that they add, by scripts with typed answers.
-// Texts are functions and not constants, which take the check far longer.
 use crate::scripts::Scene;
 use std::test::Fail;
 

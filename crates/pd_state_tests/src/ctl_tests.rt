@@ -1,5 +1,4 @@
 // Schedulers' turns and pd-ctl's commands, by scripts with typed answers.
-// Texts are functions and not constants, which take the check far longer.
 use crate::scripts::Scene;
 use heartbeat::Standing;
 use pd_types::{Ids, NoMemory, Proposal, Seq, Text};

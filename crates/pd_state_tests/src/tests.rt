@@ -1,5 +1,4 @@
 // The requests of stores and about rules, terms, and what the metadata keeps of them.
-// Texts are functions and not constants, which take the check far longer.
 use crate::scripts::{Scene, request};
 use pd_state::{Cluster, Reply};
 use pd_types::{Actor, BeatFault, NoMemory, Request};
