@@ -30,7 +30,7 @@ end_or None = FIRST_END
 
 -- the end that a record tells
 abbrev pub end_in : Option Cell → ℕ
-end_in None = 1000000
+end_in None = FIRST_END
 end_in (Some cell) = end_or (number_of cell.bytes)
 
 -- the window that these records tell: it is used up

@@ -18,6 +18,8 @@ pub const FIRST_END: u64 = 1_000_000;
 /// How many ids a window has.
 pub const WINDOW: u64 = 1000;
 
+const _: () = prove!(FIRST_END == 1_000_000 && WINDOW == 1_000);
+
 /// Ids up to an end that is saved in the record `id`. Contracts see the end, the revision at which
 /// the window was saved or found, and the last id that is taken.
 #[derive(Debug, Drop)]

@@ -1,5 +1,6 @@
 -- The seats of drivers that share one metadata behind a lock (own choice: in PD each driver has a connection of its own to etcd).
 use Rattle.std.specs.Prelude.{◌≡◌, ◌≤◌, ℕ, List, [], ◌∷◌, ◌++◌, All, None, Result, Ok, Err, reverse}
+use Rattle.pd_types.specs.declared.oracle.TheConstants.{MAX_DRIVERS}
 use Rattle.pd_turn.specs.Turns.{IsFree, IsMadeBy, TicketValue, TurnValue, items_of, ticket_value}
 use Rattle.meta_store.specs.declared.record.Cell.{Cell}
 use Rattle.meta_store.specs.declared.record.MetaAnswer.{MetaAnswer}
@@ -80,4 +81,4 @@ ticket_by seat = ticket_value seat.turn seat.driver seat.list None
 -- a ticket of this turn with nothing taken, of one of the numbers 0 to 7
 pub record IsOpen (turn : TurnValue) (ticket : TicketValue MetaAnswer) : Type 0 where
   pub free : IsFree turn ticket
-  pub number : ticket.number ≤ 7
+  pub number : ticket.number ≤ MAX_DRIVERS

@@ -9,6 +9,7 @@ use Rattle.pd_types.specs.declared.store.Label.{Label}
 use Rattle.pd_types.specs.declared.store.StoreRec.{StoreRec}
 use Rattle.pd_types.specs.declared.store.StoreState.{StoreState}
 use Rattle.pd_types.specs.declared.store.StoreState.TheVariants.{Up, Offline, Tombstone}
+use Rattle.pd_lines.specs.declared.plain.TheConstants.{MOST_ADDRESS_BYTES}
 use Rattle.pd_lines.specs.Labels.{AreLabels, labels_of, labels_text}
 use Rattle.pd_lines.specs.Plain.{address_of, is_plain}
 
@@ -16,7 +17,7 @@ use Rattle.pd_lines.specs.Plain.{address_of, is_plain}
 pub record IsStore (store : StoreRec) : Type 0 where
   pub some : 0 < store.id
   pub low : store.id < 2 ^ 63
-  pub address : is_plain 64 store.address ≡ true
+  pub address : is_plain MOST_ADDRESS_BYTES store.address ≡ true
   pub labels : AreLabels store.labels
 
 -- the state, as a word

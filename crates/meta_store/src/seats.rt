@@ -1,6 +1,7 @@
 // Seats of drivers at metadata that they share, behind a lock.
 ghost use Rattle.std.specs.Prelude.{◌≡◌, ◌++◌, ◌∷◌, [], ◌<◌, ◌≤◌, ℕ, All, length, map, reverse, None, Some, IfOk, IfErr, OnOk};
 ghost use Rattle.std.specs.Arc.{arc_value};
+ghost use Rattle.pd_types.specs.declared.oracle.TheConstants.{MAX_DRIVERS};
 ghost use Rattle.pd_turn.specs.Turns.{TurnValue, ticket_value};
 ghost use Rattle.meta_store.specs.declared.record.MetaCall.TheVariants as calls;
 ghost use Rattle.meta_store.specs.Cells.{AreRising};
@@ -36,13 +37,14 @@ pub struct MetaSeat {
 impl Model for MetaSeat {
     ghost use Rattle.std.specs.Prelude.{◌≡◌, ◌≤◌, None};
     ghost use Rattle.std.specs.Arc.{arc_value};
+    ghost use Rattle.pd_types.specs.declared.oracle.TheConstants.{MAX_DRIVERS};
     ghost use Rattle.meta_store.specs.Seats.{SeatValue, seat_of};
 
     ghost Value = { SeatValue };
 
     ghost view = { λ s. seat_of s.ticket.turn s.ticket.number s.ticket.list };
 
-    ghost invariant = { λ s. (s.ticket.turn ≡ arc_value s.turn) × (s.ticket.taken ≡ None) × (s.ticket.number ≤ 7) };
+    ghost invariant = { λ s. (s.ticket.turn ≡ arc_value s.turn) × (s.ticket.taken ≡ None) × (s.ticket.number ≤ MAX_DRIVERS) };
 }
 
 // A lead under one turn of the lock.
@@ -54,7 +56,7 @@ fn lead_by<R: Wait>(
 ) -> Result<Cells, MetaFault>
     requires turn { ticket.old.turn ≡ turn.now }
     requires none { ticket.old.taken ≡ None }
-    requires number { ticket.old.number ≤ 7 }
+    requires number { ticket.old.number ≤ MAX_DRIVERS }
     ensures rising { IfOk result AreRising }
     ensures ticket { ticket.new ≡ ticket_value turn.now ticket.old.number (ticket.old.list ++ lead_adds term result) None }
 {
@@ -77,7 +79,7 @@ fn put_by<R: Wait>(
 ) -> Result<u64, MetaFault>
     requires turn { ticket.old.turn ≡ turn.now }
     requires none { ticket.old.taken ≡ None }
-    requires number { ticket.old.number ≤ 7 }
+    requires number { ticket.old.number ≤ MAX_DRIVERS }
     ensures ticket { ticket.new ≡ ticket_value turn.now ticket.old.number (ticket.old.list ++ write_adds (calls.Put term key.now expected bytes.now) result) None }
 {
     let driver = ticket.number() as u8;
@@ -98,7 +100,7 @@ fn delete_by<R: Wait>(
 ) -> Result<u64, MetaFault>
     requires turn { ticket.old.turn ≡ turn.now }
     requires none { ticket.old.taken ≡ None }
-    requires number { ticket.old.number ≤ 7 }
+    requires number { ticket.old.number ≤ MAX_DRIVERS }
     ensures ticket { ticket.new ≡ ticket_value turn.now ticket.old.number (ticket.old.list ++ write_adds (calls.Delete term key.now expected) result) None }
 {
     let driver = ticket.number() as u8;

@@ -2,6 +2,7 @@
 use Rattle.std.specs.Prelude.{◌≡◌, ◌⊎◌, ℕ, ◌+◌, ◌<◌, List, [], ◌∷◌, ◌++◌, length, map, codes, Bool, true, false, Option, Result, Ok, Err, nat_lt, if◌then◌else◌}
 use Rattle.std.specs.Fmt.{decimal}
 use Rattle.std.specs.Io.KnownBytes.{Appends, Consumes, IsAtEnd, Keeps}
+use Rattle.pd_lines.specs.declared.input.TheConstants.{PIECE}
 use Rattle.pd_lines.specs.Input.{TakesFew}
 use Rattle.pd_lines.specs.Output.{WritesPrefix}
 use Rattle.pd_types.specs.Timestamp.{timestamp, physical, logical}
@@ -262,6 +263,6 @@ Ends benches command status left_old left_new held_old held_new = Answers benche
 
 -- what a command asks of the source, however it ends: `replay` and `run` at most the limit and one piece, `tso` nothing
 abbrev pub Asks : Command → Option (List ℕ) → Option (List ℕ) → Type 0
-Asks Replay old new = TakesFew old new (MAX_BYTES + 4096)
-Asks Run old new = TakesFew old new (MAX_BYTES + 4096)
+Asks Replay old new = TakesFew old new (MAX_BYTES + PIECE)
+Asks Run old new = TakesFew old new (MAX_BYTES + PIECE)
 Asks (Tso timestamp) old new = Keeps old new

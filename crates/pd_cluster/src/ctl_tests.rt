@@ -3,8 +3,7 @@
 use crate::status::Status;
 use crate::tests::{answers_of, expect_with, script_of};
 use balance_sched::{BalanceLeader, BalanceRegion};
-use pd_script::MAX_DRIVERS;
-use pd_types::NoMemory;
+use pd_types::{MAX_DRIVERS, NoMemory};
 use sched_api::{Bench, Scheduler};
 use std::alloc::Global;
 use std::test::Fail;

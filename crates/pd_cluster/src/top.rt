@@ -6,6 +6,7 @@ ghost use Rattle.pd_cluster.specs.Outcome.{AreHeededBy, AreHeededIn, AreLeft, As
 ghost use Rattle.pd_cluster.specs.Response.{Gives, HasEndCause, HasFailureCause, IsFinal, Responds, command_in, outcome_of};
 ghost use Rattle.pd_cluster.specs.RunOutcome.{AreLost, TellsRun};
 ghost use Rattle.pd_cluster.specs.declared.status.Status.TheVariants.{ReadFault, WriteFault};
+ghost use Rattle.pd_lines.specs.declared.input.TheConstants.{PIECE};
 ghost use Rattle.pd_lines.specs.Input.{TakesFew};
 ghost use Rattle.pd_script.specs.Lawful.{IsLawfulScript};
 ghost use Rattle.pd_script.specs.Scripts.{script_of};
@@ -228,7 +229,7 @@ fn source_response<R: Threads + Wait + Sync, S: Source, B: Seated + Drop + Send,
     ensures left { IsErrOf result Failure.NoMemory → AreLeft (record { old = map B.seats benches.old.items; new = map B.seats benches.new.items }) (command_in mode) }
     ensures unheard { IsErrOf result Failure.ReadFault → map B.seats benches.new.items ≡ map B.seats benches.old.items }
     ensures unread { IsErrOf result Failure.ReadFault → TakesFew (S.left source.old) (S.left source.new) MAX_BYTES }
-    ensures asked { TakesFew (S.left source.old) (S.left source.new) (MAX_BYTES + 4096) }
+    ensures asked { TakesFew (S.left source.old) (S.left source.new) (MAX_BYTES + PIECE) }
     ensures cause { HasFailureCause (S.faults source.old) (S.faults source.new) result }
 {
     match read_all(alloc, source, MAX_BYTES) {

@@ -2,6 +2,7 @@
 use Rattle.std.specs.Prelude.{ℕ, ◌+◌, ◌<◌, ◌≤◌, List, length, Result, Option, IsErrOf}
 use Rattle.std.specs.Io.KnownBytes.{Consumes, IsAtEnd}
 use Rattle.pd_io.specs.Faults.{Rose}
+use Rattle.pd_lines.specs.declared.input.TheConstants.{PIECE}
 use Rattle.pd_lines.specs.declared.input.ReadRefusal.{ReadRefusal}
 use Rattle.pd_lines.specs.declared.input.ReadRefusal.TheVariants.{ReadFault}
 
@@ -16,7 +17,7 @@ pub record TakesMore (old new : Option (List ℕ)) (limit : ℕ) : Type 0 where
   pub front : List ℕ
   pub taken : Consumes old new front
   pub long : limit < length front
-  pub soon : length front ≤ limit + 4096
+  pub soon : length front ≤ limit + PIECE
 
 -- no more than the limit was taken
 pub record TakesFew (old new : Option (List ℕ)) (limit : ℕ) : Type 0 where

@@ -4,13 +4,14 @@ use Rattle.std.specs.List.{join_with_byte, list_any, slice_split}
 use Rattle.std.specs.Option.{option_and_then}
 use Rattle.std.specs.Str.{bytes_eq}
 use Rattle.pd_types.specs.declared.store.Label.{Label}
+use Rattle.pd_lines.specs.declared.label.TheConstants.{MOST_LABELS, MOST_LABEL_BYTES}
 use Rattle.pd_lines.specs.Plain.{is_plain}
 
 -- at most four labels, each key and each value of 1 to 32 plain characters, and no key twice
 pub record AreLabels (labels : List Label) : Type 0 where
-  pub few : length labels ≤ 4
-  pub keys : All (λ label. is_plain 32 label.key ≡ true) labels
-  pub values : All (λ label. is_plain 32 label.value ≡ true) labels
+  pub few : length labels ≤ MOST_LABELS
+  pub keys : All (λ label. is_plain MOST_LABEL_BYTES label.key ≡ true) labels
+  pub values : All (λ label. is_plain MOST_LABEL_BYTES label.value ≡ true) labels
   pub distinct : AllPairs (λ one later. one.key ≢ later.key) labels
 
 -- a label as it is written: `key=value`
@@ -23,7 +24,7 @@ labels_text labels = join_with_byte 44 (map label_text labels)
 
 -- a key and a value, each of 1 to 32 plain characters
 abbrev pub label_by : List (List ℕ) → Option Label
-label_by (key ∷ value ∷ []) = if is_plain 32 key && is_plain 32 value then Some (record { key = key; value = value }) else None
+label_by (key ∷ value ∷ []) = if is_plain MOST_LABEL_BYTES key && is_plain MOST_LABEL_BYTES value then Some (record { key = key; value = value }) else None
 label_by _ = None
 
 -- the label that a part is: `key=value`
@@ -36,7 +37,7 @@ has_key key labels = list_any (λ label. bytes_eq label.key key) labels
 
 -- a label behind others: there are fewer than four, and none has its key
 abbrev pub with_label : List Label → Label → Option (List Label)
-with_label earlier label = if nat_lt (length earlier) 4 && not (has_key label.key earlier) then Some (earlier ++ label ∷ []) else None
+with_label earlier label = if nat_lt (length earlier) MOST_LABELS && not (has_key label.key earlier) then Some (earlier ++ label ∷ []) else None
 
 -- the labels of these parts, behind those read before
 abbrev pub labels_from : List Label → List (List ℕ) → Option (List Label)

@@ -6,6 +6,11 @@ use pd_types::Bytes;
 use std::alloc::Global;
 use thiserror::Error;
 
+/// How many bytes a source is asked for at once.
+pub const PIECE: usize = 4096;
+
+const _: () = prove!(PIECE == 4_096);
+
 /// Why an input was not read whole. What was taken of the source stays taken.
 #[derive(Clone, Copy, Debug, PartialEq, Eq, Error)]
 pub enum ReadRefusal {
@@ -28,11 +33,11 @@ pub fn read_all<S: Source>(
     ensures ok { IfOk result (λ text. ReadsWhole (S.left source.old) (S.left source.new) limit text) }
     ensures too_long { IsErrOf result ReadRefusal.TooLong → TakesMore (S.left source.old) (S.left source.new) limit }
     ensures read_fault { IsErrOf result ReadRefusal.ReadFault → TakesFew (S.left source.old) (S.left source.new) limit }
-    ensures asked { TakesFew (S.left source.old) (S.left source.new) (limit + 4096) }
+    ensures asked { TakesFew (S.left source.old) (S.left source.new) (limit + PIECE) }
     ensures cause { HasRefusalCause (S.faults source.old) (S.faults source.new) result }
 {
     let mut text = Vec::new(alloc);
-    let mut piece = [0u8; 4096];
+    let mut piece = [0u8; PIECE];
     while text.len() <= limit {
         let count = match source.take(&mut piece) {
             Ok(count) => count,

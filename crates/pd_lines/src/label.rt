@@ -10,6 +10,14 @@ use crate::plain::{WordFault, is_plain, plain_text};
 use pd_types::{Label, Labels, NoMemory};
 use std::alloc::Global;
 
+/// How many labels a store has at most.
+pub const MOST_LABELS: usize = 4;
+
+/// How many characters the key or the value of a label has at most.
+pub const MOST_LABEL_BYTES: usize = 32;
+
+const _: () = prove!(MOST_LABELS == 4 && MOST_LABEL_BYTES == 32);
+
 /// The labels that a word lists: one to four, each `key=value` with 1 to 32 plain characters on
 /// either side, joined by commas, and no key twice; none for another word.
 pub fn labels(alloc: Global, word: &[u8]) -> Result<Option<Labels>, NoMemory>
@@ -48,7 +56,7 @@ fn pair(alloc: Global, key: &[u8], value: &[u8]) -> Result<Label, WordFault>
     ensures ok { IfOk result (λ label. label_by (key.now ∷ value.now ∷ []) ≡ Some label) }
     ensures refused { IfErr result (IsWordFault (label_by (key.now ∷ value.now ∷ []))) }
 {
-    if !is_plain(32, key) || !is_plain(32, value) {
+    if !is_plain(MOST_LABEL_BYTES, key) || !is_plain(MOST_LABEL_BYTES, value) {
         return Err(WordFault::Form);
     }
     Ok(Label {
@@ -83,7 +91,7 @@ fn keep_label(labels: &mut Labels, label: Label) -> Result<(), WordFault>
     ensures ok { OnOk result (with_label labels.old label ≡ Some labels.new) }
     ensures refused { IfErr result (IsWordFault (with_label labels.old label)) }
 {
-    if labels.len() >= 4 || has_key(label.key.as_bytes(), labels.as_slice()) {
+    if labels.len() >= MOST_LABELS || has_key(label.key.as_bytes(), labels.as_slice()) {
         return Err(WordFault::Form);
     }
     labels.push(label)?;

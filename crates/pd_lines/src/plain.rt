@@ -7,6 +7,11 @@ ghost use Rattle.pd_lines.specs.declared.plain.WordFault.TheVariants as word_fau
 use pd_types::{NoMemory, Text};
 use std::alloc::{AllocError, Global};
 
+/// How many characters an address has at most.
+pub const MOST_ADDRESS_BYTES: usize = 64;
+
+const _: () = prove!(MOST_ADDRESS_BYTES == 64);
+
 // Why a word isn't read.
 #[derive(Clone, Copy)]
 pub enum WordFault {
@@ -66,7 +71,7 @@ pub fn plain_text(alloc: Global, word: &[u8]) -> Result<Text, NoMemory>
 pub fn address(alloc: Global, word: &[u8]) -> Result<Option<Text>, NoMemory>
     ensures value { IfOk result (λ text. text ≡ address_of word.now) }
 {
-    if !is_plain(64, word) {
+    if !is_plain(MOST_ADDRESS_BYTES, word) {
         return Ok(None);
     }
     Ok(Some(plain_text(alloc, word)?))

@@ -1,18 +1,19 @@
 -- What drivers get before a run begins: their seats at the metadata and their benches.
 use Rattle.std.specs.Prelude.{◌≡◌, ℕ, ◌+◌, ◌-◌, List, [], ◌∷◌, ◌++◌, Option, Some, None, map}
+use Rattle.pd_types.specs.declared.oracle.TheConstants.{MAX_DRIVERS}
 use Rattle.pd_turn.specs.Turns.{TurnValue}
 use Rattle.tso_model.specs.Moves.{numbers_from}
 use Rattle.meta_store.specs.Seats.{SeatValue, new_seat}
 
 -- the new seats of a turn that was opened: nobody's, with the number 0, and one for each of seven drivers
 pub record AreNewSeats (meta : TurnValue) (seats : List SeatValue) : Type 0 where
-  pub numbers : meta.numbers ≡ numbers_from 0 8
-  pub seats_are : seats ≡ map (new_seat meta) (numbers_from 0 8)
+  pub numbers : meta.numbers ≡ numbers_from 0 (MAX_DRIVERS + 1)
+  pub seats_are : seats ≡ map (new_seat meta) (numbers_from 0 (MAX_DRIVERS + 1))
 
 -- what is left of them once each of so many drivers has its own
 pub record AreSpareSeats (meta : TurnValue) (drivers : ℕ) (seats : List SeatValue) : Type 0 where
-  pub numbers : meta.numbers ≡ numbers_from 0 8
-  pub seats_are : seats ≡ map (new_seat meta) (0 ∷ numbers_from (drivers + 1) (7 - drivers))
+  pub numbers : meta.numbers ≡ numbers_from 0 (MAX_DRIVERS + 1)
+  pub seats_are : seats ≡ map (new_seat meta) (0 ∷ numbers_from (drivers + 1) (MAX_DRIVERS - drivers))
 
 -- these seats behind the first were handed out
 pub record AreHandedOut (given old new : List SeatValue) : Type 0 where

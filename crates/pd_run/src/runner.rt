@@ -1,8 +1,9 @@
 // A run: all drivers, clients and stores answer their lines, each on a thread of its own.
-ghost use Rattle.std.specs.Prelude.{◌≡◌, ◌≤◌, ◌∷◌, All, IfOk, List, OnOk, length, map};
+ghost use Rattle.std.specs.Prelude.{◌≡◌, ◌+◌, ◌≤◌, ◌∷◌, All, IfOk, List, OnOk, length, map};
 ghost use Rattle.std.specs.List.{AllZip};
 ghost use Rattle.std.specs.Vec.Iter.{into_iter_items};
 ghost use denote.Param.Send.{IsSync};
+ghost use Rattle.pd_types.specs.declared.oracle.TheConstants.{MAX_DRIVERS};
 ghost use Rattle.pd_turn.specs.Turns.{AreApart};
 ghost use Rattle.tso_model.specs.Moves.{numbers_from};
 ghost use Rattle.tso_model.specs.Sound.{IsSetup};
@@ -67,8 +68,8 @@ fn starts_of<B: Drop>(
     lines: Vec<Vec<DriverLine>>,
     benches: &mut IntoIter<B>,
 ) -> Result<Vec<Start<B>>, NoMemory>
-    requires count { length oracle.items ≤ 7 }
-    requires seats { length metas.old.seats.items ≡ 8 }
+    requires count { length oracle.items ≤ MAX_DRIVERS }
+    requires seats { length metas.old.seats.items ≡ MAX_DRIVERS + 1 }
     requires pipes { length pipes.items ≡ length oracle.items }
     requires lines { length lines.items ≡ length oracle.items }
     ensures numbers { IfOk result (λ starts. map (λ start. start.driver) starts.items ≡ numbers_from 1 (length oracle.items)) }

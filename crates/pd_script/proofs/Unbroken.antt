@@ -3,7 +3,8 @@ use Rattle.std.proofs.Common.{◌≡◌, ◌≤◌, List, Bool, true, false, All
 use Rattle.std.proofs.lemmas.Bool.Decides.{nat_tests}
 use Rattle.pd_script.specs.Scripts.{broken_by, client_of, driver_of, greatest, leads_in, reports_in, stores_in}
 use Rattle.pd_script.specs.declared.limits.Broken.{Broken}
-use Rattle.pd_script.specs.declared.limits.TheConstants.{MAX_CLIENTS, MAX_DRIVERS, MAX_EVENTS, MAX_LEADS, MAX_REPORTS, MAX_STORES}
+use Rattle.pd_types.specs.declared.oracle.TheConstants.{MAX_CLIENTS, MAX_DRIVERS}
+use Rattle.pd_script.specs.declared.limits.TheConstants.{MAX_EVENTS, MAX_LEADS, MAX_REPORTS, MAX_STORES}
 use Rattle.pd_script.specs.declared.event.Numbered.{Numbered}
 use Rattle.pd_script.proofs.Greatest.{each_within}
 

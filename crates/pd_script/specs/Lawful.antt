@@ -11,7 +11,8 @@ use Rattle.pd_script.specs.Scripts.{is_lead, is_report, store_in}
 use Rattle.pd_script.specs.Table.{is_misplaced}
 use Rattle.pd_script.specs.declared.act.Act.{Act}
 use Rattle.pd_script.specs.declared.act.Line.{Line}
-use Rattle.pd_script.specs.declared.limits.TheConstants.{MAX_CLIENTS, MAX_DRIVERS, MAX_EVENTS, MAX_LEADS, MAX_REPORTS, MAX_STORES}
+use Rattle.pd_types.specs.declared.oracle.TheConstants.{MAX_CLIENTS, MAX_DRIVERS}
+use Rattle.pd_script.specs.declared.limits.TheConstants.{MAX_EVENTS, MAX_LEADS, MAX_REPORTS, MAX_STORES}
 use Rattle.pd_script.specs.declared.place.Place.{Place}
 use Rattle.pd_script.specs.declared.place.Place.TheVariants.{Driver, Client}
 use Rattle.pd_script.specs.declared.script.Mode.{Mode}

@@ -1,4 +1,5 @@
 ghost use Rattle.std.specs.Prelude.{◌≡◌, ◌≤◌};
+ghost use Rattle.pd_types.specs.declared.oracle.TheConstants.{MAX_CLIENTS, MAX_DRIVERS};
 ghost use Rattle.pd_script.specs.Scripts.{act_by, greatest_in, if_client, if_driver};
 ghost use Rattle.pd_script.specs.Table.{row};
 
@@ -59,8 +60,8 @@ pub struct Line {
 
 /// What a line does that is no request.
 pub fn step_act(verb: Verb, numbers: Numbers) -> Act
-    requires drivers { greatest_in if_driver (row verb).places numbers ≤ 7 }
-    requires clients { greatest_in if_client (row verb).places numbers ≤ 64 }
+    requires drivers { greatest_in if_driver (row verb).places numbers ≤ MAX_DRIVERS }
+    requires clients { greatest_in if_client (row verb).places numbers ≤ MAX_CLIENTS }
     ensures value { result ≡ act_by verb numbers }
 {
     let Numbers {

@@ -1,5 +1,6 @@
 // Who acts in a line.
 ghost use Rattle.std.specs.Prelude.{◌≡◌, ◌≤◌, ℕ, option_to_list};
+ghost use Rattle.pd_types.specs.declared.oracle.TheConstants.{MAX_CLIENTS, MAX_DRIVERS};
 ghost use Rattle.pd_script.specs.Scripts.{acting, actor_by, asker, asks_report, greatest_in, if_client, if_driver, store_by, store_in};
 
 use crate::numbers::Numbers;
@@ -38,8 +39,8 @@ pub fn asks_report(request: &Request) -> bool
 
 // Who acts in a place.
 fn acting(place: Place, n: u64) -> Option<Actor>
-    requires driver { if_driver place n ≤ 7 }
-    requires client { if_client place n ≤ 64 }
+    requires driver { if_driver place n ≤ MAX_DRIVERS }
+    requires client { if_client place n ≤ MAX_CLIENTS }
     ensures value { result ≡ acting place n }
 {
     match place {
@@ -53,8 +54,8 @@ fn acting(place: Place, n: u64) -> Option<Actor>
 /// Who acts in a line that is no request: the driver, the client or the store that it names first, none
 /// in a `cell` line.
 pub fn step_actor(places: Places, n: Numbers) -> Option<Actor>
-    requires drivers { greatest_in if_driver places n ≤ 7 }
-    requires clients { greatest_in if_client places n ≤ 64 }
+    requires drivers { greatest_in if_driver places n ≤ MAX_DRIVERS }
+    requires clients { greatest_in if_client places n ≤ MAX_CLIENTS }
     ensures value { result ≡ actor_by places n }
 {
     match places {

@@ -1,5 +1,6 @@
 // Lines that aren't passed over, and what they name.
 ghost use Rattle.std.specs.Prelude.{◌≡◌, ◌≤◌, option_to_list};
+ghost use Rattle.pd_types.specs.declared.oracle.TheConstants.{MAX_CLIENTS, MAX_DRIVERS};
 ghost use Rattle.pd_script.specs.Scripts.{act_of, actor_of, client_of, driver_of, is_lead, is_report, line_of, store_of};
 
 use crate::act::step_act;
@@ -84,8 +85,8 @@ impl Event {
 
     /// What its line does. The drivers and clients that it names are within their limits.
     pub fn act(self) -> Act
-        requires drivers { driver_of self ≤ 7 }
-        requires clients { client_of self ≤ 64 }
+        requires drivers { driver_of self ≤ MAX_DRIVERS }
+        requires clients { client_of self ≤ MAX_CLIENTS }
         ensures value { result ≡ act_of self }
     {
         match self {
@@ -100,8 +101,8 @@ impl Event {
 
 // Who acts in an event.
 fn actor(event: &Event) -> Option<Actor>
-    requires drivers { driver_of event.now ≤ 7 }
-    requires clients { client_of event.now ≤ 64 }
+    requires drivers { driver_of event.now ≤ MAX_DRIVERS }
+    requires clients { client_of event.now ≤ MAX_CLIENTS }
     ensures value { result ≡ actor_of event.now }
 {
     match event {
@@ -112,8 +113,8 @@ fn actor(event: &Event) -> Option<Actor>
 
 /// The line of an event whose drivers and clients are within their limits.
 pub fn line(numbered: Numbered) -> Line
-    requires drivers { driver_of numbered.event ≤ 7 }
-    requires clients { client_of numbered.event ≤ 64 }
+    requires drivers { driver_of numbered.event ≤ MAX_DRIVERS }
+    requires clients { client_of numbered.event ≤ MAX_CLIENTS }
     ensures value { result ≡ line_of numbered }
 {
     let actor = actor(&numbered.event);

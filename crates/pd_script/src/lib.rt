@@ -34,7 +34,6 @@ pub use laws::{
     a_rest_keeps_its_words, each_place_has_its_range, stores_and_the_driver_ask,
     what_is_cut_is_the_whole,
 };
-pub use limits::MAX_DRIVERS;
 pub use reading::read_script;
 pub use refusal::{Limited, Reason, ScriptRefusal};
 pub use script::{Lines, Mode, Script};

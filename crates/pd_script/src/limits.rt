@@ -4,18 +4,12 @@ ghost use Rattle.pd_script.specs.Scripts.{broken_by, client_of, driver_of, great
 
 use crate::Limited;
 use crate::event::Numbered;
-use pd_types::NoMemory;
+use pd_types::{MAX_CLIENTS, MAX_DRIVERS, NoMemory};
 use std::alloc::Global;
 use std::collections::BTreeSet;
 
 /// How many events a script has at most.
 pub const MAX_EVENTS: usize = 65536;
-
-/// The greatest number of a driver.
-pub const MAX_DRIVERS: u64 = 7;
-
-/// The greatest number of a client.
-pub const MAX_CLIENTS: u64 = 64;
 
 /// How many stores speak at most.
 pub const MAX_STORES: u64 = 256;
@@ -28,7 +22,7 @@ pub const MAX_LEADS: u64 = 1024;
 
 const _: () = prove!(MAX_EVENTS == 65_536 && MAX_STORES == 256 && MAX_LEADS == 1_024);
 
-const _: () = prove!(MAX_DRIVERS == 7 && MAX_CLIENTS == 64 && MAX_REPORTS == 1_024);
+const _: () = prove!(MAX_REPORTS == 1_024);
 
 /// A limit that is broken, and what was counted.
 #[derive(Clone, Copy, Debug, PartialEq, Eq)]

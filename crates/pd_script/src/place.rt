@@ -3,7 +3,12 @@ ghost use Rattle.pd_script.specs.Places.{least, most, read_place};
 
 use crate::Reason;
 use pd_lines::number;
-use pd_types::{CLOCK_END, LAST_TERM, MAX_COUNT};
+use pd_types::{CLOCK_END, LAST_TERM, MAX_COUNT, MOMENT_END};
+
+/// How many workers check all regions at most.
+pub const MAX_WORKERS: u64 = 16;
+
+const _: () = prove!(MAX_WORKERS == 16);
 
 /// What may stand in a place of a line.
 #[derive(Clone, Copy, Debug, PartialEq, Eq)]
@@ -48,13 +53,13 @@ impl Place {
     {
         match self {
             Place::Driver | Place::Client => u64::MAX,
-            Place::Moment => (1 << 46) - 1,
+            Place::Moment => MOMENT_END - 1,
             Place::Saved => CLOCK_END - 1,
             Place::Count => MAX_COUNT,
             Place::Term => LAST_TERM,
             Place::Id | Place::Version => (1 << 63) - 1,
             Place::Seconds => (1 << 32) - 1,
-            Place::Workers => 16,
+            Place::Workers => MAX_WORKERS,
         }
     }
 }

@@ -1,5 +1,6 @@
 // A script from its text.
 ghost use Rattle.std.specs.Prelude.{◌≡◌, ◌<◌, ◌≤◌, ◌-◌, ◌^◌, ◌++◌, All, IfErr, IfOk, OnOk, length, map};
+ghost use Rattle.pd_types.specs.declared.oracle.TheConstants.{MAX_CLIENTS, MAX_DRIVERS};
 ghost use Rattle.pd_script.specs.Grammar.{events_of};
 ghost use Rattle.pd_script.specs.Lawful.{IsLawfulScript};
 ghost use Rattle.pd_script.specs.Refusals.{IsFault, IsRefusal, kept};
@@ -61,8 +62,8 @@ fn read_events(alloc: Global, text: &[u8], mode: Mode) -> Result<Vec<Numbered>, 
 
 // The lines of events whose drivers and clients are within their limits.
 fn lines_of(alloc: Global, events: Vec<Numbered>) -> Result<Vec<Line>, NoMemory>
-    requires drivers { All (λ e. driver_of e.event ≤ 7) events.items }
-    requires clients { All (λ e. client_of e.event ≤ 64) events.items }
+    requires drivers { All (λ e. driver_of e.event ≤ MAX_DRIVERS) events.items }
+    requires clients { All (λ e. client_of e.event ≤ MAX_CLIENTS) events.items }
     ensures ok { IfOk result (λ lines. lines.items ≡ map line_of events.items) }
 {
     let mut lines = Vec::with_capacity(alloc, events.len())?;

@@ -3,6 +3,7 @@ ghost use Rattle.std.specs.Prelude.{◌≡◌, ◌++◌, ◌∷◌, [], ◌≤�
 ghost use Rattle.std.specs.Arc.{arc_value};
 ghost use Rattle.std.specs.List.{AllZip};
 ghost use mathlib.Core.List.{IsPrefix};
+ghost use Rattle.step_stream.specs.declared.stream.TheConstants.{PLACES};
 ghost use Rattle.pd_shared.specs.Outlets.{outlet_of, TookUp};
 
 use pd_types::StepMsg;
@@ -68,7 +69,7 @@ impl Outlet {
     fn push<R: Wait>(&mut self, rt: &R, msg: StepMsg)
         ensures store { self.new.store ≡ self.old.store }
         ensures stream { self.new.stream ≡ self.old.stream }
-        ensures pushed { (self.new.pushed ≡ self.old.pushed ++ msg ∷ []) ⊎ ((self.new.pushed ≡ self.old.pushed) × (64 ≤ length self.old.pushed)) }
+        ensures pushed { (self.new.pushed ≡ self.old.pushed ++ msg ∷ []) ⊎ ((self.new.pushed ≡ self.old.pushed) × (PLACES ≤ length self.old.pushed)) }
     {
         let _back = self.stream.push(rt, &mut self.giver, msg);
     }

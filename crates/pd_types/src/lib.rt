@@ -27,14 +27,14 @@ pub use lists::{
 };
 pub use memory::NoMemory;
 pub use oracle::{
-    Actor, Batch, CLOCK_END, CellWord, LAST_TERM, Seen, Window, batches_apart_share_no_timestamp,
-    batches_have_their_count,
+    Actor, Batch, CLOCK_END, CellWord, LAST_TERM, MAX_CLIENTS, MAX_DRIVERS, Seen, Window,
+    batches_apart_share_no_timestamp, batches_have_their_count,
 };
 pub use proposal::Proposal;
 pub use region::{DownPeer, Epoch, Peer, Region, RegionBeat, Role};
 pub use request::Request;
 pub use rule::{Constraint, MAX_LOCATIONS, MAX_RULES, Op, Rule, RuleRole};
-pub use stamp::{LOGICAL, MAX_COUNT, pack, packs_and_unpacks, unpack};
+pub use stamp::{LOGICAL, MAX_COUNT, MOMENT_END, pack, packs_and_unpacks, unpack};
 pub use step::{Step, StepMsg};
 pub use store::{Label, StoreRec, StoreState};
 pub use text::Text;

@@ -10,7 +10,15 @@ pub const CLOCK_END: u64 = 1 << 45;
 /// The last term. It fits one word beside a saved time.
 pub const LAST_TERM: u64 = 262143;
 
+/// The greatest number of a driver.
+pub const MAX_DRIVERS: u64 = 7;
+
+/// The greatest number of a client.
+pub const MAX_CLIENTS: u64 = 64;
+
 const _: () = prove!(CLOCK_END == 35_184_372_088_832 && LAST_TERM == 262_143);
+
+const _: () = prove!(MAX_DRIVERS == 7 && MAX_CLIENTS == 64);
 
 /// A batch of timestamps (pdpb `TsoResponse`): the `count` numbers that end with `last`, drawn in
 /// `term` at `driver`. A batch that was granted has a count from 1 to its last.

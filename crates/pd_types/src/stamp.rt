@@ -7,13 +7,19 @@ pub const LOGICAL: u64 = 262144;
 /// How many timestamps a draw takes at most.
 pub const MAX_COUNT: u64 = LOGICAL - 1;
 
+/// Moments are below this, in milliseconds since the epoch. It is what a timestamp has room for
+/// above the count within a millisecond.
+pub const MOMENT_END: u64 = 1 << 46;
+
 const _: () = prove!(LOGICAL == 262_144 && MAX_COUNT == 262_143);
+
+const _: () = prove!(MOMENT_END == 70_368_744_177_664);
 
 /// The timestamp with these parts: milliseconds since the epoch, and a count within the
 /// millisecond.
 pub fn pack(physical: u64, logical: u64) -> u64
-    requires physical { physical < 2 ^ 46 }
-    requires logical { logical < 2 ^ 18 }
+    requires physical { physical < MOMENT_END }
+    requires logical { logical < LOGICAL }
     ensures value { result ≡ timestamp physical logical }
 {
     physical * LOGICAL + logical

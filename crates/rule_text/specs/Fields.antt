@@ -1,5 +1,5 @@
 -- The fields of a rule's JSON text (PD documentation, "Placement Rules").
-use Rattle.std.specs.Prelude.{ℕ, List, [], ◌∷◌, Bool, false, nat_lt, if◌then◌else◌, Option, Some, None, option_map, option_and_then, is_some, unwrap_or}
+use Rattle.std.specs.Prelude.{ℕ, ◌^◌, List, [], ◌∷◌, Bool, false, nat_lt, if◌then◌else◌, Option, Some, None, option_map, option_and_then, is_some, unwrap_or}
 use Rattle.serde_json.specs.Data.{Data, Items, no_items, item}
 use Rattle.serde_json.specs.Find.{get, as_null, as_bool, as_str, as_array, as_number, as_u64}
 
@@ -35,7 +35,7 @@ text_at name rule = unwrap_or (option_and_then as_str (get name rule)) []
 -- a number below 2 to the 32nd, else 0
 abbrev pub word_in : Option ℕ → ℕ
 word_in None = 0
-word_in (Some n) = if nat_lt n 4294967296 then n else 0
+word_in (Some n) = if nat_lt n (2 ^ 32) then n else 0
 
 -- the number of a field, 0 where it is absent or no whole number below 2 to the 32nd
 abbrev pub number_at : List ℕ → Data → ℕ

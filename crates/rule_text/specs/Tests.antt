@@ -1,5 +1,5 @@
 -- The tests of a rule's JSON text, each over the whole rule before the next (own choice of the order).
-use Rattle.std.specs.Prelude.{ℕ, nat_eq, nat_lt, nat_le, Bool, true, false, ◌&&◌, ◌||◌, not, if◌then◌else◌, codes, List, [], ◌∷◌, length, Option, Some, None, is_some, option_and_then, ◌≡◌, ◌⊎◌, IsUtf8}
+use Rattle.std.specs.Prelude.{ℕ, ◌^◌, nat_eq, nat_lt, nat_le, Bool, true, false, ◌&&◌, ◌||◌, not, if◌then◌else◌, codes, List, [], ◌∷◌, length, Option, Some, None, is_some, option_and_then, ◌≡◌, ◌⊎◌, IsUtf8}
 use Rattle.std.specs.List.{list_any, list_all}
 use Rattle.serde_json.specs.Data.{Data}
 use Rattle.serde_json.specs.Find.{get, as_str, as_bool, as_object, as_number, as_u64}
@@ -7,10 +7,13 @@ use Rattle.serde_json.specs.Read.{read}
 use Rattle.pd_types.specs.declared.rule.RuleRole.{RuleRole}
 use Rattle.pd_types.specs.declared.rule.RuleRole.TheVariants as roles
 use Rattle.pd_types.specs.declared.rule.Rule.{Rule}
+use Rattle.pd_types.specs.declared.rule.TheConstants.{MAX_LOCATIONS}
 use Rattle.pd_types.specs.Bytes.{is_empty}
 use Rattle.pd_types.specs.Keys.{is_before_end}
 use Rattle.rule_text.specs.declared.fault.RuleFault.{RuleFault}
 use Rattle.rule_text.specs.declared.fault.RuleFault.TheVariants.{NotJson, NotObject, Missing, WrongKind, BadHex, BadRole, BadOp, BadCount, EmptyRange, IsolationLevel, NoMemory}
+use Rattle.rule_text.specs.declared.kinds.TheConstants.{MOST_NAME_BYTES}
+use Rattle.rule_text.specs.declared.read.TheConstants.{MOST_COUNT}
 use Rattle.rule_text.specs.Fields.{given, list_in, items_at, text_at, number_at}
 use Rattle.rule_text.specs.Words.{role_of, op_of}
 use Rattle.rule_text.specs.Meaning.{key_at, bytes_at, role_at, rule_of}
@@ -46,7 +49,7 @@ is_text d = is_some (as_str d)
 -- 1 to 64 bytes, where it is a text
 abbrev pub has_name_length : Option (List ℕ) → Bool
 has_name_length None = false
-has_name_length (Some text) = nat_lt 0 (length text) && nat_le (length text) 64
+has_name_length (Some text) = nat_lt 0 (length text) && nat_le (length text) MOST_NAME_BYTES
 
 -- a text of 1 to 64 bytes
 abbrev pub is_name : Data → Bool
@@ -55,7 +58,7 @@ is_name d = has_name_length (as_str d)
 -- below 2 to the 32nd, where it is a whole number
 abbrev pub fits_word : Option ℕ → Bool
 fits_word None = false
-fits_word (Some n) = nat_lt n 4294967296
+fits_word (Some n) = nat_lt n (2 ^ 32)
 
 -- a whole number below 2 to the 32nd
 abbrev pub is_number : Data → Bool
@@ -73,7 +76,7 @@ are_texts d = all_in is_text (list_in d)
 -- at most 4, where it is a list
 abbrev pub are_few : Option (List Data) → Bool
 are_few None = false
-are_few (Some ds) = nat_le (length ds) 4
+are_few (Some ds) = nat_le (length ds) MAX_LOCATIONS
 
 -- a list of at most 4 texts
 abbrev pub are_labels : Data → Bool
@@ -130,10 +133,10 @@ have_ops rule = list_all has_op (items_at (codes "label_constraints") rule)
 
 -- 1 for a leader rule, and 1 to 15 for the others
 abbrev pub is_count : RuleRole → ℕ → Bool
-is_count roles.Voter n = nat_le 1 n && nat_le n 15
+is_count roles.Voter n = nat_le 1 n && nat_le n MOST_COUNT
 is_count roles.Leader n = nat_eq n 1
-is_count roles.Follower n = nat_le 1 n && nat_le n 15
-is_count roles.Learner n = nat_le 1 n && nat_le n 15
+is_count roles.Follower n = nat_le 1 n && nat_le n MOST_COUNT
+is_count roles.Learner n = nat_le 1 n && nat_le n MOST_COUNT
 
 -- the count is one that the role allows
 abbrev pub has_count : Data → Bool

@@ -6,11 +6,13 @@ ghost use Rattle.serde_json.specs.View.{view};
 ghost use Rattle.rule_text.specs.Tests.{has, lacks_word, is_missing, is_number, is_name, are_texts, passes, may_pass, is_text, is_constraint, are_constraints, are_few, are_labels, is_truth, are_needed, are_optional, is_of_kind};
 
 use crate::fields::{items_of, list, optional};
+use pd_types::MAX_LOCATIONS;
 use serde_json::Value;
 
-const MOST_NAME_BYTES: usize = 64;
+/// How many bytes the group or the id of a rule has at most.
+pub const MOST_NAME_BYTES: usize = 64;
 
-const MOST_LABELS: usize = 4;
+const _: () = prove!(MOST_NAME_BYTES == 64);
 
 fn has(value: &Value, name: &str) -> bool
     ensures { result ≡ has name.now (view value.now) }
@@ -133,7 +135,7 @@ fn are_few(field: &Value) -> bool
     ensures { result ≡ are_few (list_in (view field.now)) }
 {
     match list(field) {
-        Some(items) => items.len() <= MOST_LABELS,
+        Some(items) => items.len() <= MAX_LOCATIONS,
         None => false,
     }
 }

@@ -19,7 +19,10 @@ use std::alloc::Global;
 /// A key has at most this many bytes.
 pub const MOST_KEY_BYTES: usize = 256;
 
-const MOST_COUNT: u32 = 15;
+/// The greatest count of a rule.
+pub const MOST_COUNT: u32 = 15;
+
+const _: () = prove!(MOST_KEY_BYTES == 256 && MOST_COUNT == 15);
 
 // The bytes of a key; none where it isn't hexadecimal or too long.
 fn key(alloc: Global, digits: &str) -> Result<Option<Bytes>, NoMemory>

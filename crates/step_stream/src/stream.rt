@@ -24,12 +24,13 @@ pub struct Stream {
 impl Model for Stream {
     ghost use Rattle.std.specs.Prelude.{◌≡◌};
     ghost use Rattle.atomic_table.specs.Seated.{TableId};
+    ghost use Rattle.step_stream.specs.declared.stream.TheConstants.{PLACES};
 
     ghost Value = { TableId };
 
     ghost view = { λ s. s.queue.table.shared.table_id };
 
-    ghost invariant = { λ s. s.queue.cap ≡ 64 };
+    ghost invariant = { λ s. s.queue.cap ≡ PLACES };
 }
 
 /// The one end that pushes. Contracts see its stream and what it pushed.
@@ -99,7 +100,7 @@ impl Stream {
     pub fn push<R: Wait>(&self, rt: &R, giver: &mut Giver, msg: StepMsg) -> Result<(), StepMsg>
         requires stream { giver.old.stream ≡ self.now }
         ensures ok { OnOk result (giver.new ≡ end_value self.now (giver.old.list ++ msg ∷ [])) }
-        ensures full { IfErr result (λ back. (back ≡ msg) × (giver.new ≡ giver.old) × (64 ≤ length giver.old.list)) }
+        ensures full { IfErr result (λ back. (back ≡ msg) × (giver.new ≡ giver.old) × (PLACES ≤ length giver.old.list)) }
     {
         self.queue.push_as::<Pushing, R>(rt, &mut giver.pass, msg)
     }

@@ -1,6 +1,7 @@
 -- What the post's lock keeps: the journal, and the notes that wait.
 use Rattle.std.specs.Prelude.{◌≡◌, ℕ, ◌+◌, ◌<◌, List, [], map, All, length, slice_index_or, Option, Some, None}
 use Rattle.atomic_table.specs.Seated.{TableId}
+use Rattle.pd_types.specs.declared.oracle.TheConstants.{MAX_CLIENTS}
 use Rattle.tso_board.specs.declared.note.Note.{Note}
 use Rattle.tso_board.specs.Notes.{note_board, note_seen}
 use Rattle.tso_client.specs.declared.entry.PostEntry.{PostEntry}
@@ -20,8 +21,8 @@ queue_at queues i = slice_index_or queues i []
 -- The journal is in order, and the 64 queues have the notes that wait for the clients 1 to 64
 pub record IsLog (board : TableId) (journal : List PostEntry) (queues : List (List Note)) : Type 0 where
   pub post : IsPost journal
-  pub wide : length queues ≡ 64
-  pub waiting : (i : ℕ) → i < 64 → AreWaiting board (i + 1) journal (queue_at queues i)
+  pub wide : length queues ≡ MAX_CLIENTS
+  pub waiting : (i : ℕ) → i < MAX_CLIENTS → AreWaiting board (i + 1) journal (queue_at queues i)
 
 -- each entry with its client's number
 abbrev pub tale_of : List PostEntry → List (ℕ × PostEntry)

@@ -1,5 +1,6 @@
 -- What contracts see of a post and of a client's slip.
 use Rattle.std.specs.Prelude.{◌≡◌, ℕ, ◌<◌, ◌≤◌, List, [], ◌∷◌, ◌++◌, length, None}
+use Rattle.pd_types.specs.declared.oracle.TheConstants.{MAX_CLIENTS}
 use Rattle.pd_turn.specs.Turns.{TicketValue, TurnValue, ticket_value}
 use Rattle.tso_client.specs.declared.entry.PostEntry.{PostEntry}
 use Rattle.tso_client.specs.declared.entry.PostWhat.{PostWhat}
@@ -46,4 +47,4 @@ ticket_by slip = ticket_value slip.post slip.client slip.list None
 -- a ticket with nothing taken, of one of the numbers 1 to 64
 pub record IsOpen (ticket : TicketValue PostEntry) : Type 0 where
   pub none : ticket.taken ≡ None
-  pub number : (0 < ticket.number) × (ticket.number ≤ 64)
+  pub number : (0 < ticket.number) × (ticket.number ≤ MAX_CLIENTS)

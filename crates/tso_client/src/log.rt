@@ -1,5 +1,6 @@
 // What the post's lock keeps.
 ghost use Rattle.std.specs.Prelude.{◌≡◌, ◌≢◌, ℕ, ◌-◌, ◌<◌, ◌≤◌, ◌++◌, ◌∷◌, [], List, length, map, replicate, slice_set, IfOk, IfErr, IfNone, IfSome, OnOk, OnErr};
+ghost use Rattle.pd_types.specs.declared.oracle.TheConstants.{MAX_CLIENTS};
 ghost use Rattle.tso_board.specs.declared.note.Note.{Note};
 ghost use Rattle.tso_board.specs.Notes.{note_board, note_seen};
 ghost use Rattle.tso_client.specs.declared.entry.PostWhat.TheVariants.{Told, Heard, Nothing};
@@ -9,14 +10,11 @@ ghost use Rattle.tso_client.specs.Slips.{entry_of};
 use crate::entry::{PostEntry, PostWhat};
 use crate::name::BoardName;
 use pd_turn::Tale;
-use pd_types::NoMemory;
+use pd_types::{MAX_CLIENTS, NoMemory};
 use std::alloc::{AllocFailed, Global};
 use std::collections::LinkedList;
 use std::marker::{Model, PhantomData};
 use tso_board::Note;
-
-// A post has at most so many clients.
-const CLIENTS: usize = 64;
 
 type Queues = Vec<LinkedList<Note>>;
 
@@ -63,7 +61,7 @@ impl<N: BoardName> Log<N> {
     /// Leaves a note for a client. Want of memory hands it back.
     pub fn tell(&mut self, client: u8, line: u32, to: u8, note: Note) -> Result<(), Note>
         requires note { note_board note ≡ N.board }
-        requires to { (0 < to) × (to ≤ 64) }
+        requires to { (0 < to) × (to ≤ MAX_CLIENTS) }
         ensures ok { OnOk result (self.new ≡ self.old ++ entry_of client line (Told to (note_seen note)) ∷ []) }
         ensures err { IfErr result (λ back. (back ≡ note) × (self.new ≡ self.old)) }
     {
@@ -82,7 +80,7 @@ impl<N: BoardName> Log<N> {
 
     /// Takes the oldest note that waits for the client, or none where none does.
     pub fn hear(&mut self, client: u8, line: u32) -> Result<Option<Note>, NoMemory>
-        requires client { (0 < client) × (client ≤ 64) }
+        requires client { (0 < client) × (client ≤ MAX_CLIENTS) }
         ensures board { IfOk result (λ heard. IfSome heard (λ note. note_board note ≡ N.board)) }
         ensures ok { IfOk result (λ heard. self.new ≡ self.old ++ entry_of client line (what_of heard) ∷ []) }
         ensures err { OnErr result (self.new ≡ self.old) }
@@ -114,10 +112,10 @@ fn what_of(heard: &Option<Note>) -> PostWhat
 
 // A queue for each client.
 fn no_notes(alloc: Global) -> Result<Queues, NoMemory>
-    ensures value { IfOk result (λ queues. queues.items ≡ replicate 64 []) }
+    ensures value { IfOk result (λ queues. queues.items ≡ replicate MAX_CLIENTS []) }
 {
     let mut queues = Vec::new(alloc);
-    for _ in 0..CLIENTS {
+    for _ in 0..MAX_CLIENTS {
         queues.push(LinkedList::new(alloc))?;
     }
     Ok(queues)

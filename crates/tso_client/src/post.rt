@@ -1,4 +1,5 @@
 ghost use Rattle.std.specs.Prelude.{◌≡◌, ◌++◌, ◌∷◌, [], ◌<◌, ◌≤◌, ℕ, All, length, map, None, IfErr, IfOk, IfSome, OnErr, OnOk};
+ghost use Rattle.pd_types.specs.declared.oracle.TheConstants.{MAX_CLIENTS};
 ghost use Rattle.pd_turn.specs.Turns.{AreApart, IsFree, new_ticket, ticket_value};
 ghost use Rattle.tso_model.specs.Moves.{numbers_from};
 ghost use Rattle.tso_board.specs.Boards.{board_id};
@@ -28,13 +29,14 @@ pub struct Post<N: BoardName> {
 
 impl<N: BoardName> Model for Post<N> {
     ghost use Rattle.std.specs.Prelude.{◌≡◌, ◌≤◌, length};
+    ghost use Rattle.pd_types.specs.declared.oracle.TheConstants.{MAX_CLIENTS};
     ghost use Rattle.pd_turn.specs.Turns.{TurnValue};
 
     ghost Value = { TurnValue };
 
     ghost view = { λ p. p.turn };
 
-    ghost invariant = { λ p. length p.turn.numbers ≤ 64 };
+    ghost invariant = { λ p. length p.turn.numbers ≤ MAX_CLIENTS };
 }
 
 /// The slip of a client, by which it tells and hears. Contracts see its post, its client's number, and the
@@ -46,13 +48,14 @@ pub struct Slip<N: BoardName> {
 
 impl<N: BoardName> Model for Slip<N> {
     ghost use Rattle.std.specs.Prelude.{◌≡◌, ◌<◌, ◌≤◌, None};
+    ghost use Rattle.pd_types.specs.declared.oracle.TheConstants.{MAX_CLIENTS};
     ghost use Rattle.tso_client.specs.Slips.{SlipValue, slip_of};
 
     ghost Value = { SlipValue };
 
     ghost view = { λ s. slip_of s.ticket.turn s.ticket.number s.ticket.list };
 
-    ghost invariant = { λ s. (s.ticket.taken ≡ None) × (0 < s.ticket.number) × (s.ticket.number ≤ 64) };
+    ghost invariant = { λ s. (s.ticket.taken ≡ None) × (0 < s.ticket.number) × (s.ticket.number ≤ MAX_CLIENTS) };
 }
 
 /// A slip for each client of a post.
@@ -106,8 +109,8 @@ fn tell_by<N: BoardName, R: Wait>(
 ) -> Result<(), Note>
     requires turn { ticket.old.turn ≡ turn.now }
     requires none { ticket.old.taken ≡ None }
-    requires number { ticket.old.number ≤ 64 }
-    requires to { (0 < to) × (to ≤ 64) }
+    requires number { ticket.old.number ≤ MAX_CLIENTS }
+    requires to { (0 < to) × (to ≤ MAX_CLIENTS) }
     requires note { note_board note ≡ N.board }
     ensures ok { OnOk result (ticket.new ≡ ticket_value ticket.old.turn ticket.old.number (ticket.old.list ++ entry_of ticket.old.number line (Told to (note_seen note)) ∷ []) None) }
     ensures err { IfErr result (λ back. (back ≡ note) × (ticket.new ≡ ticket.old)) }
@@ -135,7 +138,7 @@ fn hear_by<N: BoardName, R: Wait>(
 ) -> Result<Option<Note>, NoMemory>
     requires turn { ticket.old.turn ≡ turn.now }
     requires none { ticket.old.taken ≡ None }
-    requires number { (0 < ticket.old.number) × (ticket.old.number ≤ 64) }
+    requires number { (0 < ticket.old.number) × (ticket.old.number ≤ MAX_CLIENTS) }
     ensures board { IfOk result (λ heard. IfSome heard (λ note. note_board note ≡ N.board)) }
     ensures ok { IfOk result (λ heard. ticket.new ≡ ticket_value ticket.old.turn ticket.old.number (ticket.old.list ++ entry_of ticket.old.number line (what_of heard) ∷ []) None) }
     ensures err { OnErr result (ticket.new ≡ ticket.old) }
@@ -159,7 +162,7 @@ impl<N: BoardName> Post<N> {
     /// an empty journal.
     pub fn open(alloc: Global, _board: &Board, clients: u8) -> Result<(Post<N>, Slips<N>), NoMemory>
         requires board { board_id _board.now ≡ N.board }
-        requires clients { (0 < clients) × (clients ≤ 64) }
+        requires clients { (0 < clients) × (clients ≤ MAX_CLIENTS) }
         ensures clients { IfOk result (λ r. clients_of r.0 ≡ clients) }
         ensures slips { IfOk result (λ r. r.1.items ≡ map (new_slip r.0) (numbers_from 1 clients)) }
         ensures post { IfOk result (λ r. All (λ s. s.post ≡ r.0) r.1.items) }

@@ -1,5 +1,6 @@
 // A new oracle in memory.
 ghost use Rattle.std.specs.Prelude.{◌≡◌, ◌+◌, ◌≤◌, [], ◌++◌, map, replicate, IfOk, OnOk};
+ghost use Rattle.pd_types.specs.declared.oracle.TheConstants.{MAX_CLIENTS};
 ghost use Rattle.tso_model.specs.Moves.{numbers_from, first_words, driver_view, client_view};
 ghost use Rattle.tso_model.specs.Sound.{IsSetup};
 ghost use Rattle.tso_core.specs.Machine.{waits_in, whole_of};
@@ -92,7 +93,7 @@ fn seat_clients(alloc: Global, setup: Setup, seats: &mut Vec<Seat>) -> Result<()
 
 // The first post is nobody's.
 fn opening_posts(alloc: Global, clients: u8) -> Result<Vec<Post>, NoMemory>
-    requires few { clients ≤ 64 }
+    requires few { clients ≤ MAX_CLIENTS }
     ensures posts { IfOk result (λ posts. map waits_in posts.items ≡ replicate (clients + 1) []) }
 {
     let mut posts = Vec::new(alloc);

@@ -4,7 +4,7 @@ use mathlib.Core.Option.{some}
 use lib.ListN.{get_elem?}
 use Rattle.pd_types.specs.declared.oracle.Seen.{Seen}
 use Rattle.pd_types.specs.declared.stamp.TheConstants.{LOGICAL}
-use Rattle.pd_types.specs.declared.oracle.TheConstants.{CLOCK_END}
+use Rattle.pd_types.specs.declared.oracle.TheConstants.{CLOCK_END, MAX_CLIENTS, MAX_DRIVERS}
 use Rattle.tso_model.specs.declared.entries.Claim.{Claim}
 use Rattle.tso_model.specs.declared.entries.Published.{Published}
 use Rattle.tso_model.specs.declared.entries.Found.{Found}
@@ -70,8 +70,8 @@ pub record FitsA (k : Setup) (h : History) (v : View) : Type 0 where
 
 -- 1 to 7 drivers, 1 to 64 clients, a cell in range
 pub record IsSetup (k : Setup) : Type 0 where
-  pub drivers : (0 < k.drivers) × (k.drivers ≤ 7)
-  pub clients : (0 < k.clients) × (k.clients ≤ 64)
+  pub drivers : (0 < k.drivers) × (k.drivers ≤ MAX_DRIVERS)
+  pub clients : (0 < k.clients) × (k.clients ≤ MAX_CLIENTS)
   pub cell : (k.cell.saved < CLOCK_END) × (k.cell.term < LOGICAL)
 
 -- Part A. The windows of all views and the opening window are one window list, whose last window the cell names; each number stands in one view; what a view knows of the cell is at most the cell; each published limit names an open window of its driver, whose start the cursor was raised to; a limit in hand is of one of the drivers

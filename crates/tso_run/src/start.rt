@@ -1,5 +1,6 @@
 // The workers of clients before they begin.
 ghost use Rattle.std.specs.Prelude.{◌≡◌, ◌≤◌, All, IfOk, map};
+ghost use Rattle.pd_types.specs.declared.oracle.TheConstants.{MAX_CLIENTS};
 ghost use Rattle.tso_model.specs.Moves.{numbers_from, client_view};
 ghost use Rattle.tso_board.specs.Boards.{board_id, setup_of};
 ghost use Rattle.tso_board.specs.Passes.{IsPassOf, pass_view};
@@ -22,7 +23,7 @@ pub fn client_works<N: BoardName>(
 ) -> Result<Vec<ClientWork<N>>, NoMemory>
     requires named { board_id _board.now ≡ N.board }
     requires clients { clients_of _post.now ≡ (setup_of _board.now).clients }
-    requires few { (setup_of _board.now).clients ≤ 64 }
+    requires few { (setup_of _board.now).clients ≤ MAX_CLIENTS }
     requires passes { All (λ p. IsPassOf p _board.now) passes.items }
     requires views { map pass_view passes.items ≡ map (client_view (setup_of _board.now)) (numbers_from 1 (setup_of _board.now).clients) }
     requires slips { slips.items ≡ map (new_slip _post.now) (numbers_from 1 (setup_of _board.now).clients) }

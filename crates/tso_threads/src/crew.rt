@@ -1,6 +1,7 @@
 // A driver that leads and clients that draw, each for a thread of its own.
 ghost use Rattle.std.specs.Prelude.{◌≡◌, ◌≤◌, ◌<◌, All, IfOk, length, ℕ};
 ghost use Rattle.pd_types.specs.declared.stamp.TheConstants.{LOGICAL};
+ghost use Rattle.pd_types.specs.declared.oracle.TheConstants.{MAX_CLIENTS};
 ghost use Rattle.tso_driver.specs.Drivers.{IsDriverOf};
 ghost use Rattle.tso_threads.specs.Workers.{HasDriver, IsClientOf, IsDrawerOf, IsIdleOf, IsWorkerOf};
 
@@ -156,7 +157,7 @@ pub fn start(
     count: u64,
     tested: bool,
 ) -> Result<(Shared, Vec<Worker>), NoMemory>
-    requires clients { (0 < clients) × (clients ≤ 64) }
+    requires clients { (0 < clients) × (clients ≤ MAX_CLIENTS) }
     requires count { (0 < count) × (count < LOGICAL) }
     ensures driver { IfOk result (λ r. HasDriver r.0.board) }
     ensures workers { IfOk result (λ r. All (IsWorkerOf r.0.board) r.1.items) }

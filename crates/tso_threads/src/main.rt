@@ -12,8 +12,10 @@ mod tests;
 mod turning;
 
 ghost use Rattle.std.specs.Prelude.{◌<◌, ◌≤◌};
+ghost use Rattle.pd_types.specs.declared.oracle.TheConstants.{MAX_CLIENTS};
 
 use pd_lines::number;
+use pd_types::MAX_CLIENTS;
 use std::env::Env;
 use std::io::ErrorKind;
 use std::process::ExitCode;
@@ -29,7 +31,7 @@ fn done<R: Threads + Wait + Sync + AllocGlobal>(
     threads: u8,
     times: u64,
 ) -> Option<u64>
-    requires threads { (0 < threads) × (threads ≤ 64) }
+    requires threads { (0 < threads) × (threads ≤ MAX_CLIENTS) }
 {
     match what {
         "takes" => taking::takes(rt, rt.alloc(), threads, times).ok(),
@@ -49,7 +51,7 @@ fn asked<R: Threads + Wait + Sync + AllocGlobal + Env>(rt: &R) -> Option<u64> {
     let what = words.next()?;
     let threads = number(words.next()?.as_bytes())?;
     let times = number(words.next()?.as_bytes())?;
-    if threads == 0 || threads > 64 {
+    if threads == 0 || threads > MAX_CLIENTS {
         return None;
     }
     done(rt, &what, threads as u8, times)

@@ -1,5 +1,6 @@
 // Draws of one timestamp.
 ghost use Rattle.std.specs.Prelude.{◌<◌, ◌≤◌};
+ghost use Rattle.pd_types.specs.declared.oracle.TheConstants.{MAX_CLIENTS};
 
 use crate::crew::{Worker, run_all, start};
 use pd_types::NoMemory;
@@ -15,7 +16,7 @@ pub fn takes<R: Threads + Wait + Sync>(
     threads: u8,
     times: u64,
 ) -> Result<u64, NoMemory>
-    requires threads { (0 < threads) × (threads ≤ 64) }
+    requires threads { (0 < threads) × (threads ≤ MAX_CLIENTS) }
 {
     let (shared, mut workers) = start(alloc, threads, times, 1, false)?;
     run_all(rt, &shared, &mut workers);
