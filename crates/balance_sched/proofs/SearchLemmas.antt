@@ -20,9 +20,22 @@ use Rattle.balance_sched.specs.declared.moves.Kind.TheVariants.{Regions, Leaders
 use Rattle.balance_sched.specs.declared.moves.Move.{Move}
 use Rattle.balance_sched.specs.Tables.{Tables, count_of}
 use Rattle.balance_sched.specs.Moves.{FitsRules, IsAdmissible, IsMoveOf, Proposes, is_source, may_take, proposal_of}
-use Rattle.balance_sched.specs.Search.{AllLose, Follows, IsBest, IsLeast, IsLeastBelow, LoseBetween, LoseFrom, LoseOf, LoseTo, Loses, targets}
+use Rattle.balance_sched.specs.Search.{AllLose, Follows, IsBest, IsLeast, LoseBetween, LoseFrom, Loses, targets}
 use Rattle.balance_sched.proofs.OrderLemmas.{loses_on}
 use Rattle.balance_sched.proofs.PlaceLemmas.{any_at, at_contains, below, contains_at, find_at, some_same}
+
+-- each of the first n stores that is live and usable has at least this count
+abbrev pub IsLeastBelow : Kind → Tables → ℕ → ℕ → Type 0
+IsLeastBelow kind tables n least = (k : ℕ) (entry : StoreEntry) → k < n → slice_get tables.stores k ≡ Some entry →
+    is_live entry.store.id tables.now tables.stores ≡ true → is_usable entry.store.id tables.now tables.stores ≡ true → least ≤ count_of kind entry.store.id tables.held
+
+-- each move of the region from this store to one of the first n targets loses
+abbrev pub LoseTo : Kind → Tables → RegionBeat → ℕ → ℕ → Option Move → Type 0
+LoseTo kind tables beat from n best = (k : ℕ) (move : Move) → k < n → slice_get (targets kind beat tables.stores) k ≡ Some move.to → move.from ≡ from → IsMoveOf kind tables beat move → Loses move best
+
+-- each move of the region from the store of one of its first n peers loses
+abbrev pub LoseOf : Kind → Tables → RegionBeat → ℕ → Option Move → Type 0
+LoseOf kind tables beat n best = (k : ℕ) (peer : Peer) (move : Move) → k < n → slice_get beat.region.peers k ≡ Some peer → move.from ≡ peer.store → IsMoveOf kind tables beat move → Loses move best
 
 -- a usable store is known
 known_by : (store now : ℕ) (stores : List StoreEntry) (found : Option StoreEntry) → entry_at store stores ≡ found → option_map_or (λ (entry : StoreEntry). usable_test entry now) found false ≡ true →

@@ -1,6 +1,5 @@
 -- What a search has found so far. Private contracts alone cite this.
 use Rattle.std.specs.Prelude.{◌≡◌, ◌<◌, ◌≤◌, ℕ, nat_lt, nat_eq, nat_le, Bool, true, false, not, ◌&&◌, ◌||◌, List, map, Option, Some, None, slice_get, IfSome, ◌⊎◌, ⊤}
-use Rattle.pd_types.specs.declared.region.Peer.{Peer}
 use Rattle.pd_types.specs.declared.region.RegionBeat.{RegionBeat}
 use Rattle.store_table.specs.declared.entry.StoreEntry.{StoreEntry}
 use Rattle.store_table.specs.Entries.{is_live, is_usable}
@@ -64,16 +63,3 @@ may_go kind tables beat move =
 pub record IsAllowed (kind : Kind) (tables : Tables) (beat : RegionBeat) (move : Move) : Type 0 where
   pub goes : may_go kind tables beat move ≡ true
   pub after : FitsRules tables (done kind move beat)
-
--- each of the first n stores that is live and usable has at least this count
-abbrev pub IsLeastBelow : Kind → Tables → ℕ → ℕ → Type 0
-IsLeastBelow kind tables n least = (k : ℕ) (entry : StoreEntry) → k < n → slice_get tables.stores k ≡ Some entry →
-    is_live entry.store.id tables.now tables.stores ≡ true → is_usable entry.store.id tables.now tables.stores ≡ true → least ≤ count_of kind entry.store.id tables.held
-
--- each move of the region from this store to one of the first n targets loses
-abbrev pub LoseTo : Kind → Tables → RegionBeat → ℕ → ℕ → Option Move → Type 0
-LoseTo kind tables beat from n best = (k : ℕ) (move : Move) → k < n → slice_get (targets kind beat tables.stores) k ≡ Some move.to → move.from ≡ from → IsMoveOf kind tables beat move → Loses move best
-
--- each move of the region from the store of one of its first n peers loses
-abbrev pub LoseOf : Kind → Tables → RegionBeat → ℕ → Option Move → Type 0
-LoseOf kind tables beat n best = (k : ℕ) (peer : Peer) (move : Move) → k < n → slice_get beat.region.peers k ≡ Some peer → move.from ≡ peer.store → IsMoveOf kind tables beat move → Loses move best

@@ -24,7 +24,8 @@ use Rattle.pd_state.specs.Adding.{Around, Planning}
 use Rattle.pd_state.specs.Asking.{Hearing, Point, and_then, done, ended, go_on, waits, write}
 use Rattle.pd_state.specs.Checking.{Burial, Deed, Round, burial_after, bury, bury_all, bury_one, first_round, grave_by, graves_in, is_grave, patrol, patrol_deed, plans_in, stopped_burial, sweep, tombstone, visit}
 use Rattle.pd_state.specs.declared.patrol.Planned.{Planned}
-use Rattle.pd_state.specs.Patrols.{AddsOperators, BuriesStores, IsBuried, MayBeBuried, Patrols, is_tombstone, tombstones}
+use Rattle.pd_state.specs.Known.{is_tombstone}
+use Rattle.pd_state.specs.Patrols.{AddsOperators, BuriesStores, IsBuried, MayBeBuried, Patrols, tombstones}
 use Rattle.pd_state.proofs.Ends.{Ends, ends_any, ends_if, ends_map, ends_on}
 use Rattle.pd_state.proofs.Graves.{Below, IsOffline, buried_others, graves_offline, graves_rise, pairs_head, pairs_rest}
 use Rattle.pd_state.proofs.NextFree.{ends_is}

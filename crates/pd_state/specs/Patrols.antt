@@ -2,7 +2,6 @@
 use Rattle.std.specs.Prelude.{◌≡◌, ◌⊎◌, ℕ, ◌+◌, ◌≤◌, nat_eq, ⊤, Bool, true, false, List, length, codes, filter, All, Some}
 use Rattle.std.specs.FinMap as map
 use Rattle.std.specs.List.{list_any}
-use Rattle.pd_types.specs.declared.store.StoreState.{StoreState}
 use Rattle.pd_types.specs.declared.store.StoreState.TheVariants as states
 use Rattle.store_table.specs.declared.entry.StoreEntry.{StoreEntry}
 use Rattle.store_table.specs.Entries.{state_at}
@@ -15,7 +14,9 @@ use Rattle.op_control.specs.Adding.{refusal_of}
 use Rattle.op_control.specs.Table.{Table}
 use Rattle.pd_state.specs.Adding.{Around, Planning}
 use Rattle.pd_state.specs.Checking.{Burial, Deed, Round, check_op, is_busy, patrol_deed, plans_in}
+use Rattle.pd_state.specs.Known.{is_tombstone}
 use Rattle.pd_state.specs.Lives.{AreLives}
+use Rattle.pd_state.specs.declared.checking.TheConstants.{CHECK_PRIORITY}
 use Rattle.pd_state.specs.declared.patrol.Planned.{Planned}
 
 -- one of the plans is this region's
@@ -27,7 +28,7 @@ pub record IsChecks (operators : Table) (region now : ℕ) : Type 0 where
   pub op : Operator
   pub last : map.get operators.last region ≡ Some op
   pub kind : op.kind ≡ codes "check"
-  pub priority : op.priority ≡ 2
+  pub priority : op.priority ≡ CHECK_PRIORITY
   pub created : op.created ≡ now
 
 -- the fault is a limit: that of a store, or that of all operators
@@ -68,13 +69,7 @@ pub record IsBuried (around : Around) (stores : List StoreEntry) (id : ℕ) : Ty
   pub may : MayBeBuried around id
   pub now : state_at id stores ≡ Some states.Tombstone
 
--- it is one
-abbrev pub is_tombstone : StoreState → Bool
-is_tombstone states.Tombstone = true
-is_tombstone states.Up = false
-is_tombstone states.Offline = false
-
--- how many of the stores are
+-- how many of the stores are Tombstones
 abbrev pub tombstones : List StoreEntry → ℕ
 tombstones stores = length (filter (λ (entry : StoreEntry). is_tombstone entry.store.state) stores)
 

@@ -5,8 +5,12 @@ use Rattle.std.proofs.lemmas.List.Elements.{recursion_from_All}
 use mathlib.Core.Option.{some}
 use lib.ListN.{get_elem?}
 use Rattle.atomic_table.proofs.Lists.{at_index}
-use Rattle.pd_turn.specs.Rule.{AreOf, AreToldBy}
-use Rattle.pd_turn.specs.Turns.{IsFree, IsToldBy, TicketValue, TurnValue}
+use Rattle.pd_turn.specs.Rule.{AreOf}
+use Rattle.pd_turn.specs.Turns.{IsFree, IsToldBy, TicketValue, TurnValue, items_of}
+
+-- each ticket's list is the items of its number in the whole tale, in order
+abbrev pub AreToldBy : {I : Type 0} → List (ℕ × I) → List (TicketValue I) → Type 0
+AreToldBy {I} whole tickets = (k : ℕ) (t : TicketValue I) → get_elem? tickets k ≡ some t → t.list ≡ items_of t.number whole
 
 -- an element that is there, whatever stands for one that isn't
 same_there : {A : Type 0} (xs : List A) (k : ℕ) (a b : A) → k < length xs → get_or xs k a ≡ get_or xs k b

@@ -7,7 +7,8 @@ use Rattle.atomic_table.specs.Seated.{TableId}
 use Rattle.pd_turn.specs.declared.rule.View.{View}
 use Rattle.pd_turn.specs.Rule.{Has, view_of, list_of, slots_of, Follows, IsTicket, both_views, lists_of}
 use Rattle.pd_turn.specs.Turns.{items_of, made_by, IsMadeBy, TurnValue, TicketValue, ticket_value, turn_value}
-use Rattle.pd_turn.specs.Rule.{AreOf, AreToldBy}
+use Rattle.pd_turn.specs.Rule.{AreOf}
+use Rattle.pd_turn.proofs.Each.{AreToldBy}
 use Rattle.pd_turn.proofs.Items.{grown}
 
 module _ {I : Type 0} where

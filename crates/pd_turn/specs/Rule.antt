@@ -116,7 +116,3 @@ lists_of {I} tickets = map (λ t. (t.number, t.list)) tickets
 -- tickets of one turn, with nothing taken
 abbrev pub AreOf : {I : Type 0} → TurnValue → List (TicketValue I) → Type 0
 AreOf {I} turn tickets = (k : ℕ) (t : TicketValue I) → get_elem? tickets k ≡ some t → (t.turn ≡ turn) × (t.taken ≡ None)
-
--- each ticket's list is the items of its number in the whole tale, in order
-abbrev pub AreToldBy : {I : Type 0} → List (ℕ × I) → List (TicketValue I) → Type 0
-AreToldBy {I} whole tickets = (k : ℕ) (t : TicketValue I) → get_elem? tickets k ≡ some t → t.list ≡ items_of t.number whole

@@ -28,11 +28,19 @@ use Rattle.rule_fit.proofs.RoomLemmas.{Agree, lowered_by_room, room_lowers}
 use Rattle.rule_checker.specs.declared.class.Class.{Class}
 use Rattle.rule_checker.specs.declared.class.Class.TheVariants.{Promote, Transfer, AddVoter, AddLearner, Remove}
 use Rattle.rule_checker.specs.declared.class.Ranked.{Ranked}
-use Rattle.rule_checker.specs.Arrival.{Adds, FindsRoom, arrived, takes_new}
+use Rattle.rule_checker.specs.Arrival.{Adds, arrived, takes_new}
 use Rattle.rule_checker.specs.Candidates.{new_on, may_come, passes, pool}
 use Rattle.rule_checker.specs.Measure.{HasNumber, Leaves, Lowers}
 use Rattle.rule_checker.specs.Ranks.{score_of}
 use Rattle.rule_checker.proofs.PoolLemmas.{pool_new, some_entry}
+
+-- the peer, of whose store this is known, suits a marked rule
+pub record FindsRoom (leader : ℕ) (entry : StoreEntry) (now : ℕ) (peer : Peer) (rules : List Rule) (rooms : List Bool) : Type 0 where
+  pub place : ℕ
+  pub rule : Rule
+  pub at : slice_get rules place ≡ Some rule
+  pub room : marked rooms place ≡ true
+  pub suits : suits_on leader (Some entry) now peer rule ≡ true
 
 -- of a rising list the entry at a place is that of its id
 pub entry_of_place : (stores : List StoreEntry) (k : ℕ) (entry : StoreEntry) → AreRising stores → slice_get stores k ≡ Some entry → entry_at entry.store.id stores ≡ Some entry

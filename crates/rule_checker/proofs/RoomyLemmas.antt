@@ -9,8 +9,8 @@ use Rattle.store_table.specs.declared.entry.StoreEntry.{StoreEntry}
 use Rattle.rule_fit.specs.Question.{Question}
 use Rattle.rule_fit.specs.Search.{marked}
 use Rattle.rule_fit.specs.Suits.{suits_on}
-use Rattle.rule_checker.specs.Arrival.{AreRoomy, FindsRoom, with_room}
-use Rattle.rule_checker.proofs.ArrivalLemmas.{some_rule}
+use Rattle.rule_checker.specs.Arrival.{AreRoomy, with_room}
+use Rattle.rule_checker.proofs.ArrivalLemmas.{some_rule, FindsRoom}
 
 later : (leader : ℕ) (entry : StoreEntry) (now : ℕ) (peer : Peer) (rule : Rule) (rules : List Rule) (room : Bool) (rooms : List Bool) → FindsRoom leader entry now peer rules rooms → FindsRoom leader entry now peer (rule ∷ rules) (room ∷ rooms)
 later leader entry now peer rule rules room rooms finds = record {

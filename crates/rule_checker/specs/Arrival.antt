@@ -1,5 +1,5 @@
 -- A new peer on a store. Private contracts alone cite this.
-use Rattle.std.specs.Prelude.{◌≡◌, ℕ, nat_lt, Bool, true, ◌&&◌, not, if◌then◌else◌, List, [], ◌∷◌, length, Some, slice_get, ⊤}
+use Rattle.std.specs.Prelude.{◌≡◌, ℕ, nat_lt, Bool, ◌&&◌, not, if◌then◌else◌, List, [], ◌∷◌, length, ⊤}
 use Rattle.pd_types.specs.declared.beat.TheConstants.{MAX_PEERS}
 use Rattle.pd_types.specs.declared.region.Role.{Role}
 use Rattle.pd_types.specs.declared.region.Role.TheVariants.{Voter, Learner}
@@ -10,8 +10,6 @@ use Rattle.store_table.specs.declared.entry.StoreEntry.{StoreEntry}
 use Rattle.store_table.specs.Live.{live_test, usable_test}
 use Rattle.op_step.specs.Peers.{has_store}
 use Rattle.rule_fit.specs.Question.{AreRoomsIn, Question}
-use Rattle.rule_fit.specs.Search.{marked}
-use Rattle.rule_fit.specs.Suits.{suits_on}
 use Rattle.rule_checker.specs.declared.class.Class.{Class}
 use Rattle.rule_checker.specs.declared.class.Class.TheVariants.{AddVoter, AddLearner, Promote, Transfer, Remove}
 
@@ -50,11 +48,3 @@ pub record AreRoomy (q : Question) (rules roomy : List Rule) : Type 0 where
   pub rooms : List Bool
   pub right : AreRoomsIn q rooms
   pub same : roomy ≡ with_room rules rooms
-
--- the peer, of whose store this is known, suits a marked rule
-pub record FindsRoom (leader : ℕ) (entry : StoreEntry) (now : ℕ) (peer : Peer) (rules : List Rule) (rooms : List Bool) : Type 0 where
-  pub place : ℕ
-  pub rule : Rule
-  pub at : slice_get rules place ≡ Some rule
-  pub room : marked rooms place ≡ true
-  pub suits : suits_on leader (Some entry) now peer rule ≡ true

@@ -9,7 +9,7 @@ use Rattle.tso_model.specs.declared.view.View.{View}
 use Rattle.tso_model.specs.declared.entries.Published.{Published}
 use Rattle.tso_model.specs.declared.view.Setup.{Setup}
 use Rattle.tso_model.specs.Lists.{total, times}
-use Rattle.tso_model.specs.History.{History, Names, Later, Extends, claims, greatest}
+use Rattle.tso_model.specs.History.{History, Names, Extends, claims, greatest}
 use Rattle.tso_model.proofs.Sums.{total-append}
 use Rattle.std.proofs.lemmas.List.Elements.{All-nil, All-append, All-push, All-weaker}
 use Rattle.std.proofs.lemmas.Nat.{div-mul-add, mod-mul-add}
@@ -20,7 +20,7 @@ use Rattle.tso_model.specs.Steps.{May, held, held_or, knows, new_claim, claimed,
 use Rattle.tso_model.specs.declared.plan.TheConstants.{AHEAD_MS}
 use Rattle.tso_model.specs.Sound.{FitsA, PartA}
 use Rattle.tso_model.proofs.Basics.{by_eq, at_some, if_some, in_head, in_tail, in_cons, chain_le, one_each, later_term}
-use Rattle.tso_model.proofs.Growth.{names_later, same_windows, longer, another, own_number, latest_stands, step_a, live_driver}
+use Rattle.tso_model.proofs.Growth.{names_later, same_windows, longer, another, own_number, latest_stands, step_a, live_driver, Later}
 
 pub no_some : {A : Type 0} {B : Type 0} (x : A) → Some x ≡ None → B
 no_some x e = absurd (cc e)

@@ -12,7 +12,7 @@ use Rattle.tso_model.specs.declared.entries.Limit.{Limit}
 use Rattle.tso_model.specs.declared.entries.Grant.{Grant}
 use Rattle.tso_model.specs.declared.view.Setup.{Setup}
 use Rattle.tso_model.specs.Lists.{total}
-use Rattle.tso_model.specs.History.{History, Names, Stands, Later, Extends, greatest}
+use Rattle.tso_model.specs.History.{History, Names, Stands, Extends, greatest}
 use Rattle.tso_model.proofs.Sums.{total-set}
 use Rattle.std.proofs.lemmas.List.Elements.{All-nil, All-weaker}
 use Rattle.std.specs.Prelude.{map}
@@ -23,7 +23,7 @@ use Rattle.tso_model.specs.Steps.{May, hand, knows, new_claim, claimed, saved_cl
 use Rattle.tso_model.specs.Moves.{nothing_seen}
 use Rattle.tso_model.specs.Sound.{PartA, FitsB, IsSeen, PartB, armed_at}
 use Rattle.tso_model.proofs.Basics.{chain_le}
-use Rattle.tso_model.proofs.Growth.{longer, another, Grow, maker, fitsB_later, live_driver}
+use Rattle.tso_model.proofs.Growth.{longer, another, Grow, maker, fitsB_later, live_driver, Later}
 use Rattle.tso_model.proofs.CellA.{packed-same, itself, with_claim, saved_extends, with_newest, newest_is}
 use Rattle.std.proofs.lemmas.List.Elements.{All-head}
 

@@ -1,5 +1,5 @@
 -- What stays as the history grows: named windows, seen pairs, limits in hand, and what part A says of the other views.
-use Rattle.std.proofs.Common.{◌≡◌, ◌≢◌, ℕ, ◌+◌, ◌/◌, ◌%◌, ◌^◌, ◌<◌, ◌≤◌, cond, false, List, [], ◌∷◌, ◌++◌, length, set, sym, refl, ap, ◌∙◌, subst, inl, inr, ⊎_elim, arith}
+use Rattle.std.proofs.Common.{◌≡◌, ◌≢◌, ℕ, ◌+◌, ◌/◌, ◌%◌, ◌^◌, ◌<◌, ◌≤◌, ◌⊎◌, cond, false, List, [], ◌∷◌, ◌++◌, length, set, sym, refl, ap, ◌∙◌, subst, inl, inr, ⊎_elim, arith}
 use Rattle.std.specs.Prelude.{Some, All, Contains, slice_index, ◌&&◌, nat_lt, nat_le}
 use Rattle.std.proofs.lemmas.Bool.{leb-true}
 use Rattle.pd_types.proofs.Bools.{and_true}
@@ -20,11 +20,20 @@ use Rattle.tso_model.specs.declared.entries.Added.{Added}
 use Rattle.tso_model.specs.declared.view.Setup.{Setup}
 use Rattle.tso_model.specs.Lists.{total, times}
 use Rattle.tso_model.specs.Words.{packed, IsOpen, AreClaims, opening_claim, limit_at, cursor_at}
-use Rattle.tso_model.specs.History.{History, Names, Stands, Later, Extends, claims, of_term, greatest, added_by}
+use Rattle.tso_model.specs.History.{History, Names, Stands, Extends, claims, of_term, greatest, added_by}
 use Rattle.tso_model.specs.Moves.{nothing_seen}
 use Rattle.tso_model.specs.Sound.{FitsA, PartA, drivers_of, clients_of, in_range, FitsB, IsSeen}
 use Rattle.tso_model.proofs.Sums.{total-append, total-set, term_le, terms_le}
 use Rattle.tso_model.proofs.Basics.{by_eq, by_bool, at_some, if_some, in_head, in_tail, in_cons, open_driver, hits, hits-same, there}
+
+-- g is h some steps later
+pub record Later (h g : History) : Type 0 where
+  pub term : h.newest.window.term ≤ g.newest.window.term
+  pub hi : h.newest.window.hi ≤ g.newest.window.hi
+  pub claims : (c : Claim) → Stands h c → (e : Claim) × Stands g e × Extends c e
+  pub back : (e : Claim) → Stands g e → ((c : Claim) × Stands h c × Extends c e) ⊎ (h.newest.window.term < e.window.term)
+  pub starts : (d : ℕ) → greatest d h.starts ≤ greatest d g.starts
+  pub published : (p : Published) → Contains h.published p → Contains g.published p
 
 pub extends_itself : (c : Claim) → Extends c c
 extends_itself c = record { term = refl; driver = refl; lo = λ _. refl; hi = omega arith }

@@ -15,7 +15,7 @@ use Rattle.tso_model.specs.declared.entries.Refusal.{Refusal}
 use Rattle.tso_model.specs.declared.entries.Published.{Published}
 use Rattle.tso_model.specs.declared.entries.Added.{Added}
 use Rattle.tso_model.specs.declared.view.Setup.{Setup}
-use Rattle.tso_model.specs.History.{History, Stands, Later, Extends, greatest, added_at, added_else}
+use Rattle.tso_model.specs.History.{History, Stands, Extends, greatest, added_at, added_else}
 use Rattle.tso_model.proofs.Sums.{total-append}
 use Rattle.std.proofs.lemmas.List.Elements.{All-push, All-weaker, Contains-push, Contains-push_cases, Contains-append_left}
 use Rattle.std.proofs.lemmas.List.{set-get_or}
@@ -25,7 +25,7 @@ use Rattle.tso_model.specs.Steps.{May, hand, HasHand, saved_claim}
 use Rattle.tso_model.specs.Moves.{nothing_seen}
 use Rattle.tso_model.specs.Sound.{PartA, IsSeen, PartB, PartC, Bounded, Looked}
 use Rattle.tso_model.proofs.Basics.{by_eq, by_bool, chain_le, one_each, later_term, greatest_stands, added_parts}
-use Rattle.tso_model.proofs.Growth.{same_windows, longer, another, own_number, live_driver, live_client}
+use Rattle.tso_model.proofs.Growth.{same_windows, longer, another, own_number, live_driver, live_client, Later}
 use Rattle.tso_model.proofs.CellA.{cell_else, itself, with_claim, saved_extends, with_newest}
 use Rattle.tso_model.proofs.FrameB.{cell_cursor, limit_cursor}
 use Rattle.tso_model.proofs.DrawB.{in_hand, hand_driver, cursor_here, cursor_else, cursor_limit, with_added, with_refusal, with_grant, grown_here, grown_else, grown_le, with_start}

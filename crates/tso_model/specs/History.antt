@@ -1,5 +1,5 @@
 -- What a whole run did, as lists that only grow (but for the newest window, which a save makes longer), and the fact that the views hold just these entries.
-use Rattle.std.specs.Prelude.{◌≡◌, ℕ, ◌+◌, ◌*◌, ◌<◌, ◌≤◌, max, ◌⊎◌, List, [], ◌∷◌, ◌++◌, option_to_list, cond, ◌==◌, Contains}
+use Rattle.std.specs.Prelude.{◌≡◌, ℕ, ◌+◌, ◌*◌, ◌≤◌, max, List, [], ◌∷◌, ◌++◌, option_to_list, cond, ◌==◌, Contains}
 use Rattle.pd_types.specs.declared.oracle.CellWord.{CellWord}
 use Rattle.pd_types.specs.declared.stamp.TheConstants.{LOGICAL}
 use Rattle.tso_model.specs.declared.entries.Grant.{Grant}
@@ -83,12 +83,3 @@ pub record Extends (c e : Claim) : Type 0 where
   pub driver : e.window.driver ≡ c.window.driver
   pub lo : IsOpen c.window → e.window.lo ≡ c.window.lo
   pub hi : c.window.hi ≤ e.window.hi
-
--- g is h some steps later
-pub record Later (h g : History) : Type 0 where
-  pub term : h.newest.window.term ≤ g.newest.window.term
-  pub hi : h.newest.window.hi ≤ g.newest.window.hi
-  pub claims : (c : Claim) → Stands h c → (e : Claim) × Stands g e × Extends c e
-  pub back : (e : Claim) → Stands g e → ((c : Claim) × Stands h c × Extends c e) ⊎ (h.newest.window.term < e.window.term)
-  pub starts : (d : ℕ) → greatest d h.starts ≤ greatest d g.starts
-  pub published : (p : Published) → Contains h.published p → Contains g.published p

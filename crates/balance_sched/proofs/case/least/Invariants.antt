@@ -1,5 +1,5 @@
-use Rattle.balance_sched.specs.Search.{IsLeastBelow}
 use Rattle.balance_sched.specs.Tables.{tables_of}
+use Rattle.balance_sched.proofs.SearchLemmas.{IsLeastBelow}
 use Rattle.balance_sched.proofs.case.least.Given as goal
 
 abbrev pub invariant-loop-place : goal.invariant-loop-place

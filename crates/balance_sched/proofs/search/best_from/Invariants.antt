@@ -1,5 +1,6 @@
-use Rattle.balance_sched.specs.Search.{Follows, LoseTo}
+use Rattle.balance_sched.specs.Search.{Follows}
 use Rattle.balance_sched.specs.Tables.{tables_of}
+use Rattle.balance_sched.proofs.SearchLemmas.{LoseTo}
 use Rattle.balance_sched.proofs.search.best_from.Given as goal
 
 abbrev pub invariant-loop-place : goal.invariant-loop-place

@@ -1,5 +1,6 @@
-use Rattle.balance_sched.specs.Search.{Follows, LoseOf}
+use Rattle.balance_sched.specs.Search.{Follows}
 use Rattle.balance_sched.specs.Tables.{tables_of}
+use Rattle.balance_sched.proofs.SearchLemmas.{LoseOf}
 use Rattle.balance_sched.proofs.search.best_of.Given as goal
 
 abbrev pub invariant-loop-peer : goal.invariant-loop-peer

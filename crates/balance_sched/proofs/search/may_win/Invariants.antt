@@ -1,5 +1,5 @@
-use Rattle.balance_sched.specs.Search.{LoseOf}
 use Rattle.balance_sched.specs.Tables.{tables_of}
+use Rattle.balance_sched.proofs.SearchLemmas.{LoseOf}
 use Rattle.balance_sched.proofs.search.may_win.Given as goal
 
 abbrev pub invariant-loop-peer : goal.invariant-loop-peer

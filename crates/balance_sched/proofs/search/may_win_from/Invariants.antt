@@ -1,5 +1,5 @@
-use Rattle.balance_sched.specs.Search.{LoseTo}
 use Rattle.balance_sched.specs.Tables.{tables_of}
+use Rattle.balance_sched.proofs.SearchLemmas.{LoseTo}
 use Rattle.balance_sched.proofs.search.may_win_from.Given as goal
 
 abbrev pub invariant-loop-place : goal.invariant-loop-place

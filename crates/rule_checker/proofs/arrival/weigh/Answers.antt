@@ -2,8 +2,7 @@ use Rattle.std.proofs.Common.{sym, subst, ◌∙◌, map, arith}
 use Rattle.std.proofs.lemmas.Bool.{true≢false}
 use Rattle.pd_types.specs.declared.region.Peer.{Peer}
 use Rattle.rule_fit.specs.Question.{question}
-use Rattle.rule_checker.specs.Arrival.{FindsRoom}
-use Rattle.rule_checker.proofs.ArrivalLemmas.{lower_room_found, lower_takes, room_found_lowers, weighed}
+use Rattle.rule_checker.proofs.ArrivalLemmas.{lower_room_found, lower_takes, room_found_lowers, weighed, FindsRoom}
 use Rattle.rule_checker.proofs.RoomyLemmas.{finds_roomy, roomy_finds}
 use Rattle.rule_checker.proofs.ScoreLemmas.{new_score}
 use Rattle.rule_checker.proofs.arrival.weigh.Goals as goal
