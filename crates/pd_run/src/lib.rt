@@ -14,9 +14,7 @@ mod storing;
 #[cfg(test)]
 mod tests;
 
-pub use answer::{
-    DriverAnswer, DriverAnswers, DriverSays, StoreAnswer, StoreAnswers, StoreSays, asked_besides,
-};
+pub use answer::{DriverAnswer, DriverAnswers, DriverSays, StoreAnswer, StoreAnswers, StoreSays};
 pub use laws::what_entries_hear_of_a_bench;
 pub use line::{DriverLine, DriverTask, StoreLine, StoreLines, StoreTask, Tasks};
 pub use runner::{Left, run};

@@ -5,9 +5,10 @@ ghost use Rattle.pd_turn.specs.Turns.{AreApart};
 ghost use Rattle.tso_run.specs.Lines.{IsCall};
 ghost use Rattle.pd_run.specs.Tasks.{AreTasks, GoesTo};
 
+use crate::answer::asked_besides;
 use crate::{
     DriverAnswer, DriverLine, DriverSays, DriverTask, Left, StoreAnswer, StoreLine, StoreLines,
-    StoreSays, StoreTask, Tasks, asked_besides, run,
+    StoreSays, StoreTask, Tasks, run,
 };
 use pd_state::Reply;
 use pd_types::{

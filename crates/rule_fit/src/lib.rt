@@ -26,7 +26,4 @@ pub use laws::{
 };
 pub use region::{fit, misfit_number};
 pub use room::rooms;
-pub use suiting::{
-    entry_suits, labels_of, labels_of_all, peer_suits, satisfies_all, satisfies_rule, store_suits,
-    suits_on,
-};
+pub use suiting::{labels_of, labels_of_all, satisfies_all, suits_on};

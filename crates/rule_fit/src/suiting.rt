@@ -1,6 +1,6 @@
 ghost use Rattle.std.specs.Prelude.{◌≡◌, List, ℕ, map, length, IfOk};
 ghost use Rattle.std.specs.Option.{option_copied};
-ghost use Rattle.rule_fit.specs.Suits.{value_of, satisfies, satisfies_all, entry_suits, store_suits, role_suits, suits_on, peer_suits, labels_of, labels_of_all, is_among};
+ghost use Rattle.rule_fit.specs.Suits.{value_of, satisfies, satisfies_all, entry_suits, role_suits, suits_on, peer_suits, labels_of, labels_of_all, is_among};
 
 use pd_types::{
     Constraint, Constraints, Ids, Label, NoMemory, Op, Peer, Role, Rule, RuleRole, Text,
@@ -74,32 +74,13 @@ pub fn labels_of_all<'a>(
     Ok(all)
 }
 
-/// Whether the store satisfies all constraints of the rule. A store that isn't known has no labels.
-pub fn satisfies_rule(stores: &Stores, store: u64, rule: &Rule) -> bool
-    ensures value { result ≡ satisfies_all (labels_of store stores.now) rule.now.constraints }
-{
-    satisfies_all(labels_of(stores, store), rule.constraints.as_slice())
-}
-
-/// Whether a peer on the store of which this is known may count for the rule, its role aside: the
-/// store is usable and satisfies all constraints.
-pub fn entry_suits(entry: &StoreEntry, now: u64, rule: &Rule) -> bool
+// Whether a peer on the store of which this is known may count for the rule, its role aside: the
+// store is usable and satisfies all constraints.
+fn entry_suits(entry: &StoreEntry, now: u64, rule: &Rule) -> bool
     ensures value { result ≡ entry_suits entry.now now rule.now }
 {
     let labels = entry.store.labels.as_slice();
     entry.is_usable(now) && satisfies_all(labels, rule.constraints.as_slice())
-}
-
-/// Whether a peer on the store may count for the rule, its role aside: the store is usable and
-/// satisfies all constraints.
-#[tactic(auto, using(crate::proofs::EntryLemmas::store_by_entry))]
-pub fn store_suits(stores: &Stores, now: u64, store: u64, rule: &Rule) -> bool
-    ensures value { result ≡ store_suits stores.now now store rule.now }
-{
-    match stores.entry(store) {
-        Some(entry) => entry_suits(entry, now, rule),
-        None => false,
-    }
 }
 
 // Whether a peer of this role, which leads or doesn't, may count for a rule of that role.

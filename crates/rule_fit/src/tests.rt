@@ -1,8 +1,9 @@
 mod agreement;
 
+use crate::suiting::peer_suits;
 use crate::{
     Certificate, Fit, are_apart, check_certificate, fit, isolation_score, labels_of, labels_of_all,
-    misfit_number, peer_suits, rooms, satisfies_all, score_among,
+    misfit_number, rooms, satisfies_all, score_among,
 };
 use pd_types::{
     Bytes, Constraint, Constraints, Downs, Epoch, Ids, Label, Labels, Op, Peer, Peers, Region,
