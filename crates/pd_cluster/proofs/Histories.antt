@@ -50,8 +50,9 @@ use Rattle.pd_cluster.specs.Outcome.{IsSafeRun, StaysBounded}
 use Rattle.pd_cluster.specs.Replay.{State, TakeTurns, act_step, answers_from, answers_of, gives_up, line_step, part_at, past_at, setup_of, start, state_after}
 use Rattle.pd_cluster.specs.Talks.{Talk}
 use Rattle.pd_state.specs.declared.entry.Entry.{Entry}
+use Rattle.pd_cluster.specs.declared.lead.BegunLead.{BegunLead}
 use Rattle.pd_cluster.specs.Sent.{AreMade, HaveSafeSteps, IsSafeSaid}
-use Rattle.pd_cluster.proofs.Sending.{none_at_first, printed, start_sound}
+use Rattle.pd_cluster.proofs.Sending.{no_lead_at_first, none_at_first, printed, start_sound}
 
 -- the ranges of a script are the oracle's
 pub has_driver : (k : Setup) (d : ℕ) → IsInRange k.drivers k.clients (AtDriver, d) → HasDriver k d
@@ -434,18 +435,41 @@ pub same_lines : (lines : List Line) (state : State) → map (λ (answer : Answe
 same_lines [] state = refl
 same_lines (line ∷ lines) state = ap (λ (ls : List Line). line ∷ ls) (same_lines lines (line_step state line).after)
 
+-- the driver that acts in a line is one of the oracle's, or 0
+asker_low : (drivers driver : ℕ) (request : Request) → driver ≤ drivers → driver_in (Some (asker driver request)) ≤ drivers
+asker_low drivers driver (Hello store moment address labels) low = omega arith
+asker_low drivers driver (Alive store moment) low = omega arith
+asker_low drivers driver (Beat store moment beat) low = omega arith
+asker_low drivers driver _ low = low
+
+driver_low : (drivers clients : ℕ) (act : Act) → IsLawful drivers clients act → driver_in (actor_in act) ≤ drivers
+driver_low drivers clients (Ask driver request) asked = asker_low drivers driver request asked.0.high
+driver_low drivers clients (Pop store driver) asked = omega arith
+driver_low drivers clients _ asked = omega (arith, asked.0.high)
+
+pub actor_low : (drivers clients : ℕ) (actor : Option Actor) (act : Act) → actor ≡ actor_in act → IsLawful drivers clients act → driver_in actor ≤ drivers
+actor_low drivers clients actor act is asked = subst (λ (a : Option Actor). driver_in a ≤ drivers) (sym is) (driver_low drivers clients act asked)
+
+actors_low : (drivers clients : ℕ) (lines : List Line) → AllByRecursion (λ line. IsLawful drivers clients line.act) lines → AllByRecursion (λ line. line.actor ≡ actor_in line.act) lines
+    → AllByRecursion (λ line. driver_in line.actor ≤ drivers) lines
+actors_low drivers clients [] lawful actors = tt
+actors_low drivers clients (line ∷ lines) lawful actors = (actor_low drivers clients line.actor line.act actors.0 lawful.0, actors_low drivers clients lines lawful.1 actors.1)
+
 -- the steps that are printed
 pub safe_steps : (talks : List Talk) (script : Script) → IsLawfulScript ByLine script → TakeTurns (start talks script) script.lines → HaveSafeSteps (answers_of talks script)
 safe_steps talks script lawful turns =
     let each = each_lawful ByLine script.drivers script.clients true script.lines lawful.lines in
-    let all = printed script.drivers script.clients script.lines (start talks script) each turns (start_sound script.drivers script.lines (start talks script) (length-replicate (script.drivers + 1) []) refl refl) in
+    let low = actors_low script.drivers script.clients script.lines each (recursion_from_All _ _ lawful.actors) in
+    let all = printed script.drivers script.clients script.lines (start talks script) each low turns
+    (start_sound script.drivers script.lines (start talks script) (length-replicate (script.drivers + 1) []) (length-replicate (script.drivers + 1) None) refl refl) in
     let js = (state_after (start talks script) script.lines).kept.journals in
     record {
       journals = past_at js;
       legal = all.legal;
       made = λ d.
           let one = all.made d in
-          subst (λ (j : List Entry). AreMade d (answers_of talks script) (reverse j)) (sym (one.is ∙ ap (λ (j : List Entry). one.more ++ j) (none_at_first script.drivers d) ∙ append-nil one.more)) one.made;
+          subst (λ (j : List Entry). AreMade d None (answers_of talks script) (reverse j)) (sym (one.is ∙ ap (λ (j : List Entry). one.more ++ j) (none_at_first script.drivers d) ∙ append-nil one.more))
+          (subst (λ (lead : Option BegunLead). AreMade d lead (answers_of talks script) (reverse one.more)) (no_lead_at_first script.drivers d (start talks script) refl) one.made);
       safe = All-from_recursion (λ (answer : Answer). IsSafeSaid (past_at js) answer.line answer.said) (answers_of talks script) all.safe;
     }
 
@@ -480,18 +504,3 @@ text_more state next line lines old new all after text before =
     ap (λ (s : List ℕ). s ++ answers_text (answers_from next lines)) text
     ∙ append_assoc old one (answers_text (answers_from next lines))
     ∙ ap (λ (v : State). old ++ (one ++ answers_text (answers_from v lines))) after ∙ before
-
--- the driver that acts in a line is one of the oracle's, or 0
-asker_low : (drivers driver : ℕ) (request : Request) → driver ≤ drivers → driver_in (Some (asker driver request)) ≤ drivers
-asker_low drivers driver (Hello store moment address labels) low = omega arith
-asker_low drivers driver (Alive store moment) low = omega arith
-asker_low drivers driver (Beat store moment beat) low = omega arith
-asker_low drivers driver _ low = low
-
-driver_low : (drivers clients : ℕ) (act : Act) → IsLawful drivers clients act → driver_in (actor_in act) ≤ drivers
-driver_low drivers clients (Ask driver request) asked = asker_low drivers driver request asked.0.high
-driver_low drivers clients (Pop store driver) asked = omega arith
-driver_low drivers clients _ asked = omega (arith, asked.0.high)
-
-pub actor_low : (drivers clients : ℕ) (actor : Option Actor) (act : Act) → actor ≡ actor_in act → IsLawful drivers clients act → driver_in actor ≤ drivers
-actor_low drivers clients actor act is asked = subst (λ (a : Option Actor). driver_in a ≤ drivers) (sym is) (driver_low drivers clients act asked)

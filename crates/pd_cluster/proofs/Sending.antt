@@ -32,11 +32,11 @@ use Rattle.pd_state.specs.declared.part.Part.{Part}
 use Rattle.pd_state.proofs.Few.{waits_few}
 use Rattle.pd_cluster.specs.Answers.{Answer, driver_in}
 use Rattle.pd_cluster.specs.Metadata.{answer_to, answers_from as calls_from, with_call}
-use Rattle.pd_cluster.specs.Replay.{Kept, SaysEnough, SaysEnoughFor, State, TakeTurns, Turned, act_step, answers_from, asked_besides, asked_line, lead_at, line_step, moment_of as line_moment, names_at, oracle_line, answers_at, part_at, past_at, pop_line, published_term, request_of, said_at, served, state_after, waiting_at, with_besides, with_served}
+use Rattle.pd_cluster.specs.Replay.{Kept, SaysEnough, SaysEnoughFor, State, TakeTurns, Turned, act_step, answers_from, asked_besides, asked_line, lead_after, lead_at, line_step, moment_of as line_moment, names_at, oracle_line, answers_at, part_at, past_at, pop_line, published_term, request_of, said_at, served, state_after, waiting_at, with_besides, with_served}
 use Rattle.pd_cluster.specs.Talks.{talk_at}
 use Rattle.pd_cluster.specs.declared.lead.BegunLead.{BegunLead}
 use Rattle.pd_state.specs.StepTold.{TellsStep}
-use Rattle.pd_cluster.specs.Sent.{AreMade, IsJustOf, IsSafeSaid, IsSafelySent, IsToldSafely, MakesIn}
+use Rattle.pd_cluster.specs.Sent.{AreMade, IsJustOf, IsSafeSaid, IsSafelySent, IsToldSafely, IsTurnOf, MakesIn, lead_behind}
 use Rattle.pd_cluster.specs.Streams.{Waiting, first_of, has_room, messages_in, left_by, oldest_in, waiting_for, with_actor, with_actors, with_message, with_messages, without_first}
 use Rattle.pd_cluster.specs.declared.said.Said.{Said}
 use Rattle.pd_cluster.specs.declared.said.Said.TheVariants.{ByOracle, ByCluster, Popped}
@@ -167,9 +167,15 @@ said_grows old new grows line answer = by answer.said
   where
     by : (said : Said) → IsSafeSaid (past_at old) line said → IsSafeSaid (past_at new) line said
     by (ByOracle reply) h = tt
-    by (ByCluster reply) h = λ driver request step act told.
-        let g = grows driver in
-        subst (λ (j : List Entry). IsToldSafely j line.number reply) (sym g.is) (later_told g.more (past_at old driver) line.number reply (h driver request step act told))
+    by (ByCluster reply) h = λ step told.
+        let one = h step told in
+        let g = grows one.driver in
+        record {
+          driver = one.driver;
+          request = one.request;
+          asked = one.asked;
+          told = subst (λ (j : List Entry). IsToldSafely j line.number reply) (sym g.is) (later_told g.more (past_at old one.driver) line.number reply one.told);
+        }
     by (Popped None) h = tt
     by (Popped (Some m)) h = (h.0, sent_grows old new m.driver m (grows m.driver) h.1)
 
@@ -260,6 +266,7 @@ pub record IsWaiting (js : List (List Entry)) (d store : ℕ) (m : StepMsg) : Ty
 
 pub record IsSound (drivers : ℕ) (state : State) : Type 0 where
   pub places : drivers < length state.kept.journals
+  pub leads_are : drivers < length state.leads
   pub legal : (d : ℕ) → IsLegal d (past_at state.kept.journals d)
   pub waits : (d : ℕ) → AllWait (IsWaiting state.kept.journals d) (waiting_at state d)
 
@@ -297,10 +304,10 @@ all_each P (x ∷ xs) f = (f x (0, omega arith, refl), all_each P xs (λ y has. 
 
 -- WHICH ENTRIES ARE MADE
 -- a journal has these more, the latest first, of which this holds as the line makes them
-pub record Makes (old new : List (List Entry)) (d : ℕ) (line : Line) (said : Said) : Type 0 where
+pub record Makes (old new : List (List Entry)) (d : ℕ) (lead : Option BegunLead) (line : Line) (said : Said) : Type 0 where
   pub more : List Entry
   pub is : past_at new d ≡ more ++ past_at old d
-  pub made : MakesIn d line said (reverse more)
+  pub made : MakesIn d lead line said (reverse more)
 
 -- a request that a line asks of a cluster
 module _ (kept : Kept) (d n : ℕ) (actor : Option Actor) (request : Request) (within : d < length kept.journals) where
@@ -310,10 +317,10 @@ module _ (kept : Kept) (d n : ℕ) (actor : Option Actor) (request : Request) (w
   abbrev asking : Line
   asking = record { number = n; actor = actor; act = Ask d request }
 
-  asked_makes : (e : ℕ) → Makes kept.journals (with_served kept d n request).journals e asking (ByCluster it.reply)
-  asked_makes e = by (nat_eq d e) refl
+  asked_makes : (e : ℕ) (lead : Option BegunLead) → Makes kept.journals (with_served kept d n request).journals e lead asking (ByCluster it.reply)
+  asked_makes e lead = by (nat_eq d e) refl
     where
-      by : (t : Bool) → nat_eq d e ≡ t → Makes kept.journals (with_served kept d n request).journals e asking (ByCluster it.reply)
+      by : (t : Bool) → nat_eq d e ≡ t → Makes kept.journals (with_served kept d n request).journals e lead asking (ByCluster it.reply)
       by true same = record {
         more = it ∷ [];
         is = subst (λ (k : ℕ). past_at (with_served kept d n request).journals k ≡ it ∷ past_at kept.journals k) (same_number d e same) (put_here kept.journals d (it ∷ past_at kept.journals d) [] within);
@@ -328,27 +335,69 @@ module _ (kept : Kept) (d n : ℕ) (actor : Option Actor) (request : Request) (w
         made = subst (λ (t : Bool). IsJustOf t n request it.reply []) (sym other) refl;
       }
 
--- what the oracle's answer asks for besides
-besides_makes : (kept : Kept) (line : Line) (reply : Answered) (lead : Option BegunLead) (o : Option Request) → asked_besides line.act reply lead ≡ o → (e : ℕ)
-    → Makes kept.journals (with_besides kept (driver_in line.actor) line.number o).journals e line (ByOracle reply)
-besides_makes kept line reply lead None asked e = record { more = []; is = refl; made = inl refl }
-besides_makes kept line reply lead (Some request) asked e =
-    let d = driver_in line.actor in
-    let it = served kept d line.number request in
-    elim (put_at kept.journals d e (it ∷ past_at kept.journals d) []) [
-      | inl same ↦ record { more = []; is = same; made = inl refl }
-      | inr put ↦ record {
-        more = it ∷ [];
-        is = put.1 ∙ ap (λ (k : ℕ). it ∷ past_at kept.journals k) (sym put.0);
-        made = inr (record { entry = it; one = refl; own = sym put.0; line_is = refl; lead = lead; asked = asked });
+-- the entry of what is asked besides, in the journal of the driver that is asked
+pub record MakesOwn (kept : Kept) (d n : ℕ) (o : Option Request) : Type 0 where
+  pub more : List Entry
+  pub is : past_at (with_besides kept d n o).journals d ≡ more ++ past_at kept.journals d
+  pub made : IsTurnOf n o (reverse more)
+
+own_makes : (kept : Kept) (d n : ℕ) (o : Option Request) → d < length kept.journals → MakesOwn kept d n o
+own_makes kept d n None within = record { more = []; is = refl; made = refl }
+own_makes kept d n (Some request) within =
+    let it = served kept d n request in
+    record { more = it ∷ []; is = put_here kept.journals d (it ∷ past_at kept.journals d) [] within; made = (it.reply, record { entry = it; one = refl; line_is = refl; request_is = refl; reply_is = refl }) }
+
+others_keep : (kept : Kept) (d n e : ℕ) (o : Option Request) → nat_eq d e ≡ false → past_at (with_besides kept d n o).journals e ≡ past_at kept.journals e
+others_keep kept d n e None other = refl
+others_keep kept d n e (Some request) other = elim (put_at kept.journals d e (served kept d n request ∷ past_at kept.journals d) []) [
+  | inl same ↦ same
+  | inr put ↦ absurd (other_number d e other put.0)
+]
+
+-- what a line at the oracle makes of a driver's journal and of its lead
+module _ (state : State) (line : Line) (reply : Answered) where
+  abbrev own : ℕ
+  own = driver_in line.actor
+
+  abbrev asks : ℕ → Option Request
+  asks e = asked_besides line.act reply (lead_at state e)
+
+  besides_makes : own < length state.kept.journals → (e : ℕ) → Makes state.kept.journals (with_besides state.kept own line.number (asks own)).journals e (lead_at state e) line (ByOracle reply)
+  besides_makes within e = by (nat_eq own e) refl
+    where
+      by : (t : Bool) → nat_eq own e ≡ t → Makes state.kept.journals (with_besides state.kept own line.number (asks own)).journals e (lead_at state e) line (ByOracle reply)
+      by true same =
+          let it = own_makes state.kept own line.number (asks own) within in
+          record {
+            more = it.more;
+            is = subst (λ (k : ℕ). past_at (with_besides state.kept own line.number (asks own)).journals k ≡ it.more ++ past_at state.kept.journals k) (same_number own e same) it.is;
+            made = subst (λ (t : Bool). IsTurnOf line.number (cond t (asks e) None) (reverse it.more)) (sym same)
+                (subst (λ (k : ℕ). IsTurnOf line.number (asks k) (reverse it.more)) (same_number own e same) it.made);
+          }
+      by false other = record {
+        more = [];
+        is = others_keep state.kept own line.number e (asks own) other;
+        made = subst (λ (t : Bool). IsTurnOf line.number (cond t (asks e) None) []) (sym other) refl;
       }
-    ]
+
+  lead_moves : own < length state.leads → (e : ℕ) → get_or (set state.leads own (lead_after line.act reply (lead_at state own))) e None ≡ lead_behind e (lead_at state e) line (ByOracle reply)
+  lead_moves within e = by (nat_eq own e) refl
+    where
+      new : Option BegunLead
+      new = lead_after line.act reply (lead_at state own)
+
+      by : (t : Bool) → nat_eq own e ≡ t → get_or (set state.leads own new) e None ≡ cond (nat_eq own e) (lead_after line.act reply (lead_at state e)) (lead_at state e)
+      by true same = subst (λ (t : Bool). get_or (set state.leads own new) e None ≡ cond t (lead_after line.act reply (lead_at state e)) (lead_at state e)) (sym same)
+          (subst (λ (k : ℕ). get_or (set state.leads own new) k None ≡ lead_after line.act reply (lead_at state k)) (same_number own e same) (put_here state.leads own new None within))
+      by false other = subst (λ (t : Bool). get_or (set state.leads own new) e None ≡ cond t (lead_after line.act reply (lead_at state e)) (lead_at state e)) (sym other)
+          (elim (put_at state.leads own e new None) [ inl same ↦ same | inr put ↦ absurd (other_number own e other put.0) ])
 
 -- what a line leaves and prints
 record IsSoundTurn (drivers : ℕ) (state : State) (line : Line) (turned : Turned) : Type 0 where
   sound : IsSound drivers turned.after
   grows : AllGrow state.kept.journals turned.after.kept.journals
-  makes : (e : ℕ) → Makes state.kept.journals turned.after.kept.journals e line turned.said
+  makes : (e : ℕ) → Makes state.kept.journals turned.after.kept.journals e (lead_at state e) line turned.said
+  leads : (e : ℕ) → lead_at turned.after e ≡ lead_behind e (lead_at state e) line turned.said
   safe : IsSafeSaid (past_at turned.after.kept.journals) line turned.said
 
 module _ (drivers : ℕ) (state : State) (n d : ℕ) (actor : Option Actor) (request : Request) (enough : SaysEnough state.kept d request) (s : IsSound drivers state) (low : d ≤ drivers) where
@@ -380,15 +429,20 @@ module _ (drivers : ℕ) (state : State) (n d : ℕ) (actor : Option Actor) (req
       record {
         sound = record {
           places = omega (arith, places, len);
+          leads_are = s.leads_are;
           legal = served_all state.kept d n request enough s.legal;
           waits = λ e. sent_waits e (put_at state.streams d e sent_to map.empty);
         };
         grows = served_grows state.kept d n request enough s.legal;
-        makes = asked_makes state.kept d n actor request within;
-        safe = λ driver other step act told.
-            let same : d ≡ driver = cc in
-            subst (λ (k : ℕ). IsToldSafely (past_at new_js k) n (served state.kept d n request).reply) same
-            (subst (λ (j : List Entry). IsToldSafely j n (served state.kept d n request).reply) (sym (put_here old_js d (served state.kept d n request ∷ past_at old_js d) [] within)) (served_told state.kept d n request enough (s.legal d) step told));
+        makes = λ e. asked_makes state.kept d n actor request within e (lead_at state e);
+        leads = λ e. refl;
+        safe = λ step told. record {
+          driver = d;
+          request = request;
+          asked = refl;
+          told = subst (λ (j : List Entry). IsToldSafely j n (served state.kept d n request).reply) (sym (put_here old_js d (served state.kept d n request ∷ past_at old_js d) [] within))
+              (served_told state.kept d n request enough (s.legal d) step told);
+        };
       }
 
 module _ (drivers : ℕ) (state : State) (n store d : ℕ) (actor : Option Actor) (s : IsSound drivers state) where
@@ -410,9 +464,10 @@ module _ (drivers : ℕ) (state : State) (n store d : ℕ) (actor : Option Actor
 
   pop_sound : IsSoundTurn drivers state (record { number = n; actor = actor; act = Pop store d }) (pop_line state store d)
   pop_sound = record {
-    sound = record { places = s.places; legal = s.legal; waits = λ e. left_waits e (put_at state.streams d e left map.empty) };
+    sound = record { places = s.places; leads_are = s.leads_are; legal = s.legal; waits = λ e. left_waits e (put_at state.streams d e left map.empty) };
     grows = grows_none js;
     makes = λ e. record { more = []; is = refl; made = refl };
+    leads = λ e. refl;
     safe = taken_safely (oldest_in (waiting_at state d) store) refl;
   }
 
@@ -429,8 +484,8 @@ pub besides_len : (kept : Kept) (d n : ℕ) (o : Option Request) → length (wit
 besides_len kept d n None = refl
 besides_len kept d n (Some request) = length-set kept.journals d (served kept d n request ∷ past_at kept.journals d)
 
-oracle_sound : (drivers : ℕ) (state : State) (line : Line) → IsSound drivers state → IsSoundTurn drivers state line (oracle_line state line)
-oracle_sound drivers state line s =
+oracle_sound : (drivers : ℕ) (state : State) (line : Line) → driver_in line.actor ≤ drivers → IsSound drivers state → IsSoundTurn drivers state line (oracle_line state line)
+oracle_sound drivers state line low s =
     let d = driver_in line.actor in
     let o = asked_besides line.act (act_step state.oracle line.act).reply (lead_at state d) in
     let enough = besides_enough state.kept d o (besides_turnless line.act (act_step state.oracle line.act).reply (lead_at state d)) in
@@ -438,27 +493,29 @@ oracle_sound drivers state line s =
     record {
       sound = record {
         places = omega (arith, s.places, besides_len state.kept d line.number o);
+        leads_are = omega (arith, s.leads_are, length-set state.leads d (lead_after line.act (act_step state.oracle line.act).reply (lead_at state d)));
         legal = besides_all state.kept d line.number o enough s.legal;
         waits = λ e. weaker_wait (IsWaiting state.kept.journals e) (IsWaiting (with_besides state.kept d line.number o).journals e) (waiting_at state e)
             (λ store m w. waiting_grows state.kept.journals (with_besides state.kept d line.number o).journals e store m (grows e) w) (s.waits e);
       };
       grows = grows;
-      makes = besides_makes state.kept line (act_step state.oracle line.act).reply (lead_at state d) o refl;
+      makes = besides_makes state line (act_step state.oracle line.act).reply (omega (arith, low, s.places));
+      leads = lead_moves state line (act_step state.oracle line.act).reply (omega (arith, low, s.leads_are));
       safe = tt;
     }
 
-turn_sound : (drivers clients : ℕ) (state : State) (n : ℕ) (actor : Option Actor) (act : Act) → IsLawful drivers clients act → SaysEnoughFor state (request_of act) → IsSound drivers state
+turn_sound : (drivers clients : ℕ) (state : State) (n : ℕ) (actor : Option Actor) (act : Act) → IsLawful drivers clients act → driver_in actor ≤ drivers → SaysEnoughFor state (request_of act) → IsSound drivers state
     → IsSoundTurn drivers state (record { number = n; actor = actor; act = act }) (line_step state (record { number = n; actor = actor; act = act }))
-turn_sound drivers clients state n actor (Ask d request) lawful enough s = asked_sound drivers state n d actor request enough s lawful.0.high
-turn_sound drivers clients state n actor (Pop store d) lawful enough s = pop_sound drivers state n store d actor s
-turn_sound drivers clients state n actor _ lawful enough s = oracle_sound drivers state _ s
+turn_sound drivers clients state n actor (Ask d request) lawful low enough s = asked_sound drivers state n d actor request enough s lawful.0.high
+turn_sound drivers clients state n actor (Pop store d) lawful low enough s = pop_sound drivers state n store d actor s
+turn_sound drivers clients state n actor _ lawful low enough s = oracle_sound drivers state _ low s
 
 -- ALL LINES
 -- a journal has these more, the latest first, made by the answers of these lines
 pub record AllMade (state : State) (lines : List Line) (d : ℕ) : Type 0 where
   pub more : List Entry
   pub is : past_at (state_after state lines).kept.journals d ≡ more ++ past_at state.kept.journals d
-  pub made : AreMade d (answers_from state lines) (reverse more)
+  pub made : AreMade d (lead_at state d) (answers_from state lines) (reverse more)
 
 pub record IsPrinted (state : State) (lines : List Line) : Type 0 where
   pub made : (d : ℕ) → AllMade state lines d
@@ -466,12 +523,13 @@ pub record IsPrinted (state : State) (lines : List Line) : Type 0 where
   pub legal : (d : ℕ) → IsLegal d (past_at (state_after state lines).kept.journals d)
   pub safe : AllByRecursion (λ (answer : Answer). IsSafeSaid (past_at (state_after state lines).kept.journals) answer.line answer.said) (answers_from state lines)
 
-pub printed : (drivers clients : ℕ) (lines : List Line) (state : State) → AllByRecursion (λ (line : Line). IsLawful drivers clients line.act) lines → TakeTurns state lines → IsSound drivers state → IsPrinted state lines
-printed drivers clients [] state lawful turns s = record { made = λ d. record { more = []; is = refl; made = refl }; grows = grows_none state.kept.journals; legal = s.legal; safe = tt }
-printed drivers clients (line ∷ lines) state lawful turns s =
-    let turn = turn_sound drivers clients state line.number line.actor line.act lawful.0 turns.0 s in
+pub printed : (drivers clients : ℕ) (lines : List Line) (state : State) → AllByRecursion (λ (line : Line). IsLawful drivers clients line.act) lines
+    → AllByRecursion (λ (line : Line). driver_in line.actor ≤ drivers) lines → TakeTurns state lines → IsSound drivers state → IsPrinted state lines
+printed drivers clients [] state lawful low turns s = record { made = λ d. record { more = []; is = refl; made = refl }; grows = grows_none state.kept.journals; legal = s.legal; safe = tt }
+printed drivers clients (line ∷ lines) state lawful low turns s =
+    let turn = turn_sound drivers clients state line.number line.actor line.act lawful.0 low.0 turns.0 s in
     let next : State = (line_step state line).after in
-    let rest = printed drivers clients lines next lawful.1 turns.1 turn.sound in
+    let rest = printed drivers clients lines next lawful.1 low.1 turns.1 turn.sound in
     record {
       made = λ d.
           let one = turn.makes d in
@@ -479,7 +537,7 @@ printed drivers clients (line ∷ lines) state lawful turns s =
           record {
             more = two.more ++ one.more;
             is = two.is ∙ ap (λ (j : List Entry). two.more ++ j) one.is ∙ sym (append_assoc two.more one.more (past_at state.kept.journals d));
-            made = (reverse one.more, reverse two.more, reverse-append two.more one.more, one.made, two.made);
+            made = (reverse one.more, reverse two.more, reverse-append two.more one.more, one.made, subst (λ (lead : Option BegunLead). AreMade d lead (answers_from next lines) (reverse two.more)) (turn.leads d) two.made);
           };
       grows = grows_on state.kept.journals next.kept.journals (state_after next lines).kept.journals turn.grows rest.grows;
       legal = rest.legal;
@@ -495,9 +553,14 @@ all_same (suc n) v any (suc e) = all_same n v any e
 pub none_at_first : (drivers d : ℕ) → past_at (replicate (drivers + 1) []) d ≡ []
 none_at_first drivers d = elim (all_same (drivers + 1) [] [] d) [ inl same ↦ same | inr same ↦ same ]
 
-pub start_sound : (drivers : ℕ) (lines : List Line) (state : State) → length state.kept.journals ≡ drivers + 1 → state.kept.journals ≡ replicate (drivers + 1) [] → state.streams ≡ replicate (drivers + 1) (waiting_for lines) → IsSound drivers state
-start_sound drivers lines state len journals streams = record {
+pub no_lead_at_first : (drivers d : ℕ) (state : State) → state.leads ≡ replicate (drivers + 1) None → lead_at state d ≡ None
+no_lead_at_first drivers d state leads = ap (λ (ls : List (Option BegunLead)). get_or ls d None) leads ∙ elim (all_same (drivers + 1) None None d) [ inl same ↦ same | inr same ↦ same ]
+
+pub start_sound : (drivers : ℕ) (lines : List Line) (state : State) → length state.kept.journals ≡ drivers + 1 → length state.leads ≡ drivers + 1 → state.kept.journals ≡ replicate (drivers + 1) []
+    → state.streams ≡ replicate (drivers + 1) (waiting_for lines) → IsSound drivers state
+start_sound drivers lines state len many journals streams = record {
   places = omega (arith, len);
+  leads_are = omega (arith, many);
   legal = λ d. subst (IsLegal d) (sym (ap (λ (js : List (List Entry)). past_at js d) journals ∙ none_at_first drivers d)) tt;
   waits = λ d. subst (AllWait (IsWaiting state.kept.journals d)) (sym (ap (λ (ws : List Waiting). get_or ws d map.empty) streams)) (by d (all_same (drivers + 1) (waiting_for lines) map.empty d));
 }

@@ -1,6 +1,6 @@
 -- What is printed of placement steps: each step was sent by an entry of a driver's journal, and was safe there, whoever asked for it (PD, region heartbeats: a
 -- step is sent to a region's leader only while a majority of its voters is live, and stays so). Each journal has its latest entry first.
-use Rattle.std.specs.Prelude.{◌≡◌, ◌⊎◌, ℕ, ◌+◌, max, nat_eq, Bool, true, false, List, [], ◌∷◌, ◌++◌, length, reverse, Option, Some, None, All, Contains}
+use Rattle.std.specs.Prelude.{◌≡◌, ℕ, ◌+◌, max, nat_eq, Bool, true, false, if◌then◌else◌, List, [], ◌∷◌, ◌++◌, length, reverse, Option, Some, None, All, Contains}
 use Rattle.pd_types.specs.declared.request.Request.{Request}
 use Rattle.pd_types.specs.declared.step.Step.{Step}
 use Rattle.pd_types.specs.declared.step.StepMsg.{StepMsg}
@@ -23,7 +23,7 @@ use Rattle.pd_run.specs.declared.answer.StoreSays.TheVariants as stores
 use Rattle.pd_run.specs.Runs.{DriverPart, Journal, Run, StorePart}
 use Rattle.tso_core.specs.declared.reply.Reply.{Reply as Answered}
 use Rattle.pd_cluster.specs.Answers.{Answer, driver_in}
-use Rattle.pd_cluster.specs.Replay.{asked_besides}
+use Rattle.pd_cluster.specs.Replay.{asked_besides, lead_after}
 use Rattle.pd_cluster.specs.declared.lead.BegunLead.{BegunLead}
 use Rattle.pd_cluster.specs.declared.said.Said.{Said}
 use Rattle.pd_cluster.specs.declared.said.Said.TheVariants.{ByOracle, ByCluster, Popped}
@@ -55,12 +55,18 @@ pub record IsToldSafely (journal : List Entry) (line : ℕ) (reply : Reply) : Ty
   pub line_is : sent.entry.line ≡ line
   pub reply_is : sent.entry.reply ≡ reply
 
--- what is printed for a line: where a cluster's answer tells a step as sent, the line's own entry sent one that it tells, and a message that a store took was sent
--- by an entry of its driver
+-- the line asked a driver's cluster, whose entry of that line sent a step safely that this reply tells
+pub record IsAskedSafely (journals : ℕ → List Entry) (line : Line) (reply : Reply) : Type 0 where
+  pub driver : ℕ
+  pub request : Request
+  pub asked : line.act ≡ Ask driver request
+  pub told : IsToldSafely (journals driver) line.number reply
+
+-- what is printed for a line: where a cluster's answer tells a step as sent, the line asked a cluster, and its own entry sent one that it tells; and a message
+-- that a store took was sent by an entry of its driver
 abbrev pub IsSafeSaid : (ℕ → List Entry) → Line → Said → Type 0
 IsSafeSaid journals line (ByOracle reply) = Unit {0}
-IsSafeSaid journals line (ByCluster reply) =
-    (driver : ℕ) (request : Request) (step : Step) → line.act ≡ Ask driver request → TellsStep reply step → IsToldSafely (journals driver) line.number reply
+IsSafeSaid journals line (ByCluster reply) = (step : Step) → TellsStep reply step → IsAskedSafely journals line reply
 IsSafeSaid journals line (Popped None) = Unit {0}
 IsSafeSaid journals line (Popped (Some message)) = (line.act ≡ Pop message.to message.driver) × IsSafelySent (journals message.driver) message
 
@@ -82,33 +88,39 @@ abbrev pub AsksIn : ℕ → ℕ → Act → Reply → List Entry → Type 0
 AsksIn driver line (Ask asked request) reply made = IsJustOf (nat_eq asked driver) line request reply made
 AsksIn driver line _ reply made = made ≡ []
 
--- of a line of the driver's at the oracle, the entry that its answer asks for besides: it begins a term, or ends it
-pub record IsTurnOf (driver : ℕ) (line : Line) (reply : Answered) (made : List Entry) : Type 0 where
-  pub entry : Entry
-  pub one : made ≡ entry ∷ []
-  pub own : driver_in line.actor ≡ driver
-  pub line_is : entry.line ≡ line.number
-  pub lead : Option BegunLead
-  pub asked : asked_besides line.act reply lead ≡ Some entry.request
+-- the entry of what is asked besides a line at the oracle, which begins a term or ends it, whatever its reply; where nothing is asked none
+abbrev pub IsTurnOf : ℕ → Option Request → List Entry → Type 0
+IsTurnOf line None made = made ≡ []
+IsTurnOf line (Some request) made = (reply : Reply) × IsJust line request reply made
+
+-- what the oracle's answer asks of a driver's cluster besides, where the line is the driver's and its lead by single steps is this far
+abbrev pub besides_of : ℕ → Option BegunLead → Line → Answered → Option Request
+besides_of driver lead line reply = if nat_eq (driver_in line.actor) driver then asked_besides line.act reply lead else None
+
+-- how far a driver's lead by single steps is behind an answer: only the oracle's answers to its own lines move it
+abbrev pub lead_behind : ℕ → Option BegunLead → Line → Said → Option BegunLead
+lead_behind driver lead line (ByOracle reply) = if nat_eq (driver_in line.actor) driver then lead_after line.act reply lead else lead
+lead_behind driver lead line _ = lead
 
 -- the entries that one answer makes in a driver's journal: at most one
-abbrev pub MakesIn : ℕ → Line → Said → List Entry → Type 0
-MakesIn driver line (ByOracle reply) made = (made ≡ []) ⊎ IsTurnOf driver line reply made
-MakesIn driver line (ByCluster reply) made = AsksIn driver line.number line.act reply made
-MakesIn driver line (Popped message) made = made ≡ []
+abbrev pub MakesIn : ℕ → Option BegunLead → Line → Said → List Entry → Type 0
+MakesIn driver lead line (ByOracle reply) made = IsTurnOf line.number (besides_of driver lead line reply) made
+MakesIn driver lead line (ByCluster reply) made = AsksIn driver line.number line.act reply made
+MakesIn driver lead line (Popped message) made = made ≡ []
 
--- the entries of a journal, the earliest first, are those that the answers make, one answer after the other
-abbrev pub AreMade : ℕ → List Answer → List Entry → Type 0
-AreMade driver [] entries = entries ≡ []
-AreMade driver (answer ∷ answers) entries =
-    (made : List Entry) × (rest : List Entry) × (entries ≡ made ++ rest) × MakesIn driver answer.line answer.said made × AreMade driver answers rest
+-- the entries of a journal, the earliest first, are those that the answers make, one answer after the other, where the driver's lead is this far before them
+abbrev pub AreMade : ℕ → Option BegunLead → List Answer → List Entry → Type 0
+AreMade driver lead [] entries = entries ≡ []
+AreMade driver lead (answer ∷ answers) entries =
+    (made : List Entry) × (rest : List Entry) × (entries ≡ made ++ rest) × MakesIn driver lead answer.line answer.said made
+    × AreMade driver (lead_behind driver lead answer.line answer.said) answers rest
 
 -- The headline of steps, of the answers to a script: there are journals of the drivers, each legal and made of just the requests that lines asked of its cluster,
--- with the replies that were answered, and of the terms that the oracle's answers begin and end; and by them each printed step is safe
+-- with the replies that were answered, and of each term that the oracle's answers begin and end; and by them each printed step is safe
 pub record HaveSafeSteps (answers : List Answer) : Type 0 where
   pub journals : ℕ → List Entry
   pub legal : (driver : ℕ) → IsLegal driver (journals driver)
-  pub made : (driver : ℕ) → AreMade driver answers (reverse (journals driver))
+  pub made : (driver : ℕ) → AreMade driver None answers (reverse (journals driver))
   pub safe : All (λ answer. IsSafeSaid journals answer.line answer.said) answers
 
 -- OF A RUN, whose text has the journals too
