@@ -22,7 +22,7 @@ fn begins(verb: &str, told: &str) -> bool {
         }
         "patrol" => first == "patrol",
         "schedule" => matches!(first, "scheduler" | "no-scheduler"),
-        _ => true,
+        _ => false,
     }
 }
 
