@@ -93,6 +93,7 @@ resign 1 > not-leading",
         "\
 lead 1 0 > won term 1 lo 1 hi 3001
 take 1 1 1 > got term 1 driver 1 first 262145 last 262145",
+        // examples/logical_part_used_up.txt
         "\
 lead 1 1000 > won term 1 lo 1000 hi 4000
 take 1 1 262143 > got term 1 driver 1 first 262144001 last 262406143
@@ -105,6 +106,7 @@ tick 1 3999 > moved next 3999 hi 6999",
         "\
 lead 1 1000 > won term 1 lo 1000 hi 4000
 tick 1 3998 > moved next 3998 hi 4000",
+        // examples/lost_term.txt
         "\
 lead 1 1000 > won term 1 lo 1000 hi 4000
 take 1 1 3 > got term 1 driver 1 first 262144001 last 262144003
