@@ -10,7 +10,7 @@ use Rattle.pd_types.specs.declared.region.Peer.{Peer}
 use Rattle.pd_types.specs.declared.region.RegionBeat.{RegionBeat}
 use Rattle.pd_types.proofs.Bools.{and_both, and_true}
 use Rattle.pd_types.proofs.Numbers.{equal, same_number}
-use Rattle.region_tree.specs.Stale.{ids_of, is_full, put_beat, removed_by, stale_by}
+use Rattle.region_tree.specs.Stale.{ids_of, put_beat, removed_by, stale_by}
 use Rattle.region_tree.specs.Standing.{stays}
 use Rattle.region_tree.proofs.Lawful.{inserted_length}
 use Rattle.heartbeat.specs.Counts.{is_on, leads_on}

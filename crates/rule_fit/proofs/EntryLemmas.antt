@@ -1,5 +1,5 @@
 -- Whether a peer suits a rule is said by what is known of its store.
-use Rattle.std.proofs.Common.{refl, ◌≡◌, ℕ, nat_eq, Bool, true, false, ◌&&◌, List, Option, Some, None}
+use Rattle.std.proofs.Common.{refl, ◌≡◌, ℕ, nat_eq, Bool, false, ◌&&◌, List, Option, Some, None}
 use Rattle.std.specs.Option.{option_map_or}
 use Rattle.pd_types.specs.declared.region.Peer.{Peer}
 use Rattle.pd_types.specs.declared.rule.Rule.{Rule}

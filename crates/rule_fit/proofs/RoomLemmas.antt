@@ -1,5 +1,5 @@
 -- Which rules have room for one peer more, and what such a peer makes of the misfit number.
-use Rattle.std.proofs.Common.{ℕ, zero, suc, Bool, true, false, cond, ◌≡◌, ◌+◌, ◌-◌, ◌<◌, ◌≤◌, eqb, arith, refl, ap, sym, ◌∙◌, subst, List, [], ◌∷◌, ◌++◌, length, get_or, set, sum, Option, Some, None, ◌⊎◌, inl, inr, get_or-set_same, get_or-set_other, length-append}
+use Rattle.std.proofs.Common.{ℕ, zero, suc, Bool, true, false, cond, ◌≡◌, ◌+◌, ◌-◌, ◌<◌, ◌≤◌, eqb, arith, refl, ap, sym, ◌∙◌, subst, List, [], ◌∷◌, ◌++◌, length, get_or, set, Option, Some, None, ◌⊎◌, inl, inr, get_or-set_same, get_or-set_other, length-append}
 use Rattle.std.specs.Prelude.{is_some}
 use Rattle.std.specs.Prelude.{◌↔◌}
 use Rattle.std.proofs.Math.ListN.{get_or-append}
