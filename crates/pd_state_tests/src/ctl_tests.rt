@@ -294,6 +294,61 @@ ctl 1000 operator add add-peer 7 2 => {"fault":"old-term 5"}
 "#
 }
 
+// Wishes of a region that isn't held, of a store that isn't known, and of one that isn't usable.
+fn unfounded() -> &'static str {
+    r#"term 1 1000 => term 1 stores 0 rules 1
+hello 1 1000 a1 => store put
+hello 2 1000 a2 => store put
+hello 3 1000 a3 => store put
+beat 1000 7 - - 1 1 11 11:1:v,12:2:v => accepted removed 0 none
+ctl 1000 store delete 3 => {"done":"Offline"}
+ctl 1000 operator add remove-peer 8 2 => {"fault":"no-region"}
+ctl 1000 operator add transfer-leader 8 2 => {"fault":"no-region"}
+ctl 1000 operator add transfer-peer 8 2 3 => {"fault":"no-region"}
+ctl 1000 operator add remove-peer 7 9 => {"fault":"unknown-store"}
+ctl 1000 operator add transfer-leader 7 9 => {"fault":"unknown-store"}
+ctl 1000 operator add transfer-peer 7 9 3 => {"fault":"unknown-store"}
+ctl 1000 operator add transfer-peer 7 2 9 => {"fault":"unknown-store"}
+ctl 1000 operator add transfer-peer 7 2 3 => {"fault":"not-usable"}
+"#
+}
+
+// While a region has an operator by hand no other is added, and a move takes of the limits of both
+// of its stores.
+fn busy() -> &'static str {
+    r#"term 1 1000 => term 1 stores 0 rules 1
+hello 1 1000 a1 => store put
+hello 2 1000 a2 => store put
+hello 3 1000 a3 => store put
+beat 1000 7 - 40 1 1 11 11:1:v,12:2:v => accepted removed 0 none
+beat 1000 8 40 - 1 1 81 81:1:v,82:2:v => accepted removed 0 none
+ctl 1000 operator add transfer-leader 7 2 => {"added":1,"now":"send transfer-leader peer 12 store 2"}
+ctl 1000 operator add add-peer 7 3 => {"fault":"busy 3"}
+ctl 1000 operator add remove-peer 7 2 => {"fault":"busy 3"}
+ctl 1000 operator add transfer-leader 7 2 => {"fault":"busy 3"}
+ctl 1000 operator add transfer-peer 7 2 3 => {"fault":"busy 3"}
+ctl 1000 store limit 2 0 remove-peer => {"done":"Limit"}
+ctl 1000 operator add transfer-peer 8 2 3 => {"fault":"limited available 0 needed 60000"}
+ctl 1000 store limit 2 15 remove-peer => {"done":"Limit"}
+ctl 5000 store limit 3 0 add-peer => {"done":"Limit"}
+ctl 5000 operator add transfer-peer 8 2 3 => {"fault":"limited available 0 needed 60000"}
+"#
+}
+
+// A move's new peer gets no id where another driver wrote the record of the ids, nor where that
+// driver's term is later.
+fn overtaken() -> &'static str {
+    r#"term 1 1000 => term 1 stores 0 rules 1
+hello 1 1000 a1 => store put
+hello 2 1000 a2 => store put
+beat 1000 7 - - 1 1 11 11:1:v => accepted removed 0 none
+keep id 1001000 => kept
+ctl 1000 operator add transfer-peer 7 1 2 => {"fault":"conflict 3"}
+outdate => outdated
+ctl 1000 operator add transfer-peer 7 1 2 => {"fault":"old-term 5"}
+"#
+}
+
 // The metadata takes no more calls.
 fn full() -> &'static str {
     r#"term 1 1000 => term 1 stores 0 rules 1
@@ -303,6 +358,7 @@ beat 1000 7 - - 1 1 11 11:1:v => accepted removed 0 none
 exhaust => exhausted
 ctl 1000 store delete 2 => {"fault":"meta-limit"}
 ctl 1000 operator add add-peer 7 2 => {"fault":"meta-limit"}
+ctl 1000 operator add transfer-peer 7 1 2 => {"fault":"meta-limit"}
 "#
 }
 
@@ -314,6 +370,7 @@ hello 1 1000 a1 => store put
 hello 2 1000 a2 => store put
 beat 1000 7 - - 1 1 11 11:1:v => accepted removed 0 none
 ctl 1000 operator add add-peer 7 2 => {"fault":"ids-spent"}
+ctl 1000 operator add transfer-peer 7 1 2 => {"fault":"ids-spent"}
 "#
 }
 
@@ -344,7 +401,10 @@ fn commands_of_pd_ctl_are_carried_out(rt: HostRuntime) -> Result<(), Fail> {
         buried(),
         two_drivers(),
         wishes(),
+        unfounded(),
+        busy(),
         overwritten(),
+        overtaken(),
         full(),
         spent(),
         losing(),

@@ -301,10 +301,15 @@ fn many_rules() -> [Row; 3] {
     ]
 }
 
-fn many_operators() -> [Row; 5] {
+// What is asked for a region more than may have an operator.
+fn one_more(line: &'static str) -> Row {
+    (2024, 2025, line)
+}
+
+fn many_operators() -> [Row; 8] {
     [
         begin(),
-        (1, 3, "hello % 1000 => store put"),
+        (1, 4, "hello % 1000 => store put"),
         (
             1000,
             2025,
@@ -315,11 +320,10 @@ fn many_operators() -> [Row; 5] {
             2024,
             r#"ctl 1000 operator add transfer-leader % 2 => {"added":1,"now":"send transfer-leader peer 12 store 2"}"#,
         ),
-        (
-            2024,
-            2025,
-            r#"ctl 1000 operator add transfer-leader % 2 => {"fault":"limit"}"#,
-        ),
+        one_more(r#"ctl 1000 operator add add-peer % 3 => {"fault":"limit"}"#),
+        one_more(r#"ctl 1000 operator add remove-peer % 2 => {"fault":"limit"}"#),
+        one_more(r#"ctl 1000 operator add transfer-leader % 2 => {"fault":"limit"}"#),
+        one_more(r#"ctl 1000 operator add transfer-peer % 2 3 => {"fault":"limit"}"#),
     ]
 }
 
