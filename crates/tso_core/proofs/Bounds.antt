@@ -22,7 +22,14 @@ use Rattle.tso_model.proofs.Growth.{latest_stands, own_number}
 use Rattle.tso_model.proofs.DrawB.{in_hand, hand_driver}
 use Rattle.tso_model.proofs.Learned.{cell_rises}
 use Rattle.tso_model.proofs.Ledgers.{draw_list}
-use Rattle.tso_core.specs.Ready.{CellFits, HeldFits, HandFits, Suits, IsReady}
+use Rattle.tso_core.specs.Ready.{word_end, CellFits, HeldFits, HandFits, Suits}
+
+-- the step can be made without a number out of range, where it finds this word and these batches
+pub record IsReady (step : WordStep) (words : List ℕ) (batches : List Batch) (v : View) : Type 0 where
+  pub place : word_of step v < length words
+  pub suits : Suits step v
+  pub found : slice_index words (word_of step v) < word_end
+  pub sorted : IsNonDecreasingBy (λ (b : Batch). b.term) batches
 
 -- batches by term never fall in term
 climb_least : (low t : ℕ) (bs : List Batch) (high u : ℕ) → Climb low t bs high u → (i : ℕ) (d : Batch) → i < length bs → t ≤ (get_or bs i d).term

@@ -8,11 +8,10 @@ use Rattle.tso_model.specs.Moves.{spent_view}
 use Rattle.tso_model.specs.Steps.{word_of}
 use Rattle.tso_core.specs.declared.machine.Machine.{Machine}
 use Rattle.tso_core.specs.Machine.{whole_of}
-use Rattle.tso_core.specs.Ready.{IsReady}
 use Rattle.tso_core.specs.Seated.{Seated, view_of}
 use Rattle.tso_core.specs.Sound.{IsSound, MayMake}
 use Rattle.tso_core.specs.Whole.{Whole, view_at}
-use Rattle.tso_core.proofs.Bounds.{ready_in}
+use Rattle.tso_core.proofs.Bounds.{IsReady, ready_in}
 use Rattle.tso_core.proofs.Places.{at_get, get_any, get_mapped}
 
 ready : (w : Whole) (id : ℕ) (step : WordStep) (v : View) → v ≡ view_at w id → IsSound w → MayMake w id step → IsReady step w.words w.batches v

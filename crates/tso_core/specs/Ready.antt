@@ -1,7 +1,5 @@
 -- What a step asks of a view and of the words, so that no number is out of range.
-use Rattle.std.specs.Prelude.{ℕ, ◌+◌, ◌<◌, ◌≤◌, ◌^◌, List, [], ◌∷◌, ◌++◌, length, slice_index}
-use Rattle.std.specs.List.Sorted.{IsNonDecreasingBy}
-use Rattle.pd_types.specs.declared.oracle.Batch.{Batch}
+use Rattle.std.specs.Prelude.{ℕ, ◌+◌, ◌<◌, ◌≤◌, ◌^◌, [], ◌∷◌, ◌++◌}
 use Rattle.pd_types.specs.declared.oracle.Seen.{Seen}
 use Rattle.pd_types.specs.declared.stamp.TheConstants.{LOGICAL}
 use Rattle.pd_types.specs.declared.oracle.TheConstants.{CLOCK_END, LAST_TERM}
@@ -10,7 +8,7 @@ use Rattle.tso_model.specs.declared.step.WordStep.{WordStep}
 use Rattle.tso_model.specs.declared.step.WordStep.TheVariants.{LoadCell, ClaimTerm, SaveEnd, RaiseCursor, StoreLimit, ClearLimit, LoadLimit, ArmCount, AddArmed}
 use Rattle.tso_model.specs.History.{added_by}
 use Rattle.tso_model.specs.Moves.{greater}
-use Rattle.tso_model.specs.Steps.{held, hand, word_of}
+use Rattle.tso_model.specs.Steps.{held, hand}
 use Rattle.tso_model.specs.Words.{IsCell}
 
 -- the view that heard a note with this pair
@@ -51,10 +49,3 @@ Suits ClearLimit v = Unit {0}
 Suits (LoadLimit d) v = Unit {0}
 Suits (ArmCount n) v = HandFits v × (n < LOGICAL)
 Suits AddArmed v = HandFits v × (added_by v.client (hand v).driver v.added + v.armed < 2 ^ 64)
-
--- the step can be made without a number out of range, where it finds this word and these batches
-pub record IsReady (step : WordStep) (words : List ℕ) (batches : List Batch) (v : View) : Type 0 where
-  pub place : word_of step v < length words
-  pub suits : Suits step v
-  pub found : slice_index words (word_of step v) < word_end
-  pub sorted : IsNonDecreasingBy (λ (b : Batch). b.term) batches

@@ -12,7 +12,7 @@ use std::marker::Model;
 use tso_model::lengthened;
 
 // Room is taken for so many more entries than are asked for, so that it is seldom taken.
-const SPARE_AHEAD: usize = 64;
+pub(crate) const SPARE_AHEAD: usize = 64;
 
 /// The lists of a run. They have room before a step is made, so a step takes no memory.
 #[derive(Drop)]

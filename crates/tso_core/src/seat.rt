@@ -12,6 +12,7 @@ ghost use Rattle.tso_core.specs.Steps.{client_due};
 mod client;
 mod driver;
 
+use crate::run::SPARE_AHEAD;
 use crate::{Done, Due, Kind};
 use pd_types::{CellWord, NoMemory, Seen, Window};
 use std::alloc::Global;
@@ -19,9 +20,6 @@ use std::marker::Model;
 use tso_model::{
     Added, Claim, Found, Grant, Limit, Look, Published, Refusal, Start, WordStep, greater, packed,
 };
-
-// Room is taken for so many more entries than are asked for, so that it is seldom taken.
-const SPARE_AHEAD: usize = 64;
 
 /// A view in memory. Its lists have room before a step is made, so a step takes no memory. Most
 /// of the lists are the run's evidence and are read by no step.
