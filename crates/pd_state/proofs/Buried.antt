@@ -24,11 +24,12 @@ use Rattle.pd_state.specs.Ctl.{added_by_hand, admin, command_done, ctl_of, delet
 use Rattle.pd_state.specs.HandedOut.{record_at}
 use Rattle.pd_state.specs.Reports.{command_told}
 use Rattle.pd_state.specs.Wishing.{steps_in, try_wished, wished}
-use Rattle.pd_state.specs.State.{part_of, records_of, store_of}
+use Rattle.pd_state.specs.State.{part_of, store_of}
 use Rattle.pd_state.specs.declared.entry.Entry.{Entry}
 use Rattle.pd_state.specs.declared.reply.Reply.{Reply}
 use Rattle.pd_state.specs.declared.reply.Reply.TheVariants as replies
 use Rattle.pd_state.proofs.Ends.{Ends, ends_any, ends_if, ends_on, ends_or}
+use Rattle.pd_state.proofs.Records.{records_of}
 
 -- each store is as it was, or in this state
 abbrev pub AreRestated : StoreState → List StoreEntry → List StoreEntry → Type 0

@@ -4,10 +4,11 @@ use Rattle.std.proofs.lemmas.Bool.{eq-eqb, ne_eqb}
 use Rattle.std.proofs.lemmas.List.Elements.{All-map}
 use Rattle.store_table.specs.declared.entry.StoreEntry.{StoreEntry}
 use Rattle.store_table.specs.Live.{later}
-use Rattle.pd_state.specs.State.{alive_by, began_of, heard, hello_by, part_of, records_of, store_of}
+use Rattle.pd_state.specs.State.{alive_by, began_of, heard, hello_by, part_of, store_of}
 use Rattle.pd_state.specs.declared.entry.Entry.{Entry}
 use Rattle.pd_state.specs.declared.reply.Reply.{Reply}
 use Rattle.pd_state.specs.declared.reply.Reply.TheVariants as replies
+use Rattle.pd_state.proofs.Records.{records_of}
 
 pub heard_itself : (store moment : ℕ) (before : Option ℕ) → heard store store moment before ≡ Some (later before moment)
 heard_itself store moment before = rw (eq-eqb store store refl) refl

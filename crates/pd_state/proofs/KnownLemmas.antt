@@ -26,13 +26,14 @@ use Rattle.pd_state.specs.declared.heard.Heard.{Heard}
 use Rattle.pd_state.specs.HandedOut.{record_at, store_in, store_more, stores_told, with_record}
 use Rattle.pd_state.specs.Heard.{handed_out, heard_of}
 use Rattle.pd_state.specs.Since.{begun, since, since_by}
-use Rattle.pd_state.specs.State.{greeted_by, greeting, kept_state, records_by, records_of, store_of, part_of}
+use Rattle.pd_state.specs.State.{greeted_by, greeting, kept_state, records_by, store_of, part_of}
 use Rattle.pd_state.specs.Checking.{deed_of, patrol_of}
 use Rattle.pd_state.specs.Ctl.{ctl_of, resigns}
 use Rattle.pd_state.specs.Known.{begun_with, buried_state, deleted_state, deletes, entombs, handed_to, has_offline, has_tombstone, is_deleted, is_entombed, is_offline, is_tombstone, names_store, state_or_up, where_put, greets, is_hello, LastHello, WasHanded, AreKnown}
 use Rattle.pd_state.specs.Reports.{command_told}
 use Rattle.pd_state.proofs.Buried.{AreRestated, deed_buried, deed_deleted, id_is}
 use Rattle.pd_state.proofs.Deleted.{Left, deed_left}
+use Rattle.pd_state.proofs.Records.{records_of}
 use Rattle.pd_state.proofs.Rows.{entry_map, placed_map}
 
 -- a record is found once it is placed, and those of other ids as before

@@ -27,6 +27,7 @@ pub mod Entering
 pub mod Carried
 pub mod Short
 pub mod Visits
+pub mod Records
 pub mod Refines
 pub mod Places
 pub mod Ranged

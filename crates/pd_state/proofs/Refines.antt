@@ -40,12 +40,13 @@ use Rattle.pd_state.specs.HandedOut.{record_at}
 use Rattle.pd_state.specs.Heard.{answers_of, heard_of, known_after, known_more}
 use Rattle.pd_state.specs.Replies.{alive_reply}
 use Rattle.pd_state.specs.Since.{begun, since_by, since}
-use Rattle.pd_state.specs.State.{clock_of, term_by, term_of, began_by, began_of, accepted_by, beats_by, beats_of, heard, heartbeat, greeting, kept_state, greeted_by, moment_of, records_of, removed_by, rules_by, rules_of, set_by, store_of, part_of, part_after, planned_beat, planned_by, planned_hello}
+use Rattle.pd_state.specs.State.{clock_of, term_by, term_of, began_by, began_of, accepted_by, beats_by, beats_of, heard, heartbeat, greeting, kept_state, greeted_by, moment_of, removed_by, rules_by, rules_of, set_by, store_of, part_of, part_after, planned_beat, planned_by, planned_hello}
 use Rattle.pd_state.specs.Legal.{first_reply, IsLegalAfter, IsLegal, sents_by, term_in}
 use Rattle.pd_state.specs.Sends.{message}
 use Rattle.pd_state.specs.declared.sent.Sent.{Sent}
 use Rattle.pd_state.specs.Clusters.{is_refused, refused_by, refuses, with_clock}
 use Rattle.pd_state.specs.Steps.{begun_part, greeted, put_after, heard_after, beat_after, changed_part, new_part, rules_after, standing_after, stepped, stores_after}
+use Rattle.pd_state.proofs.Records.{records_of}
 use Rattle.pd_state.proofs.Refusals.{kept_greeted, kept_id}
 use Rattle.pd_state.proofs.Rows.{entry_map, placed_map, unknown_before, found_id}
 

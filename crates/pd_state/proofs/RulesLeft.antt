@@ -29,8 +29,9 @@ use Rattle.pd_state.specs.declared.entry.Entry.{Entry}
 use Rattle.pd_state.specs.declared.reply.Reply.{Reply}
 use Rattle.pd_state.specs.declared.reply.Reply.TheVariants as replies
 use Rattle.pd_state.specs.Heard.{answers_of, heard_of}
-use Rattle.pd_state.specs.State.{began_by, began_of, beats_by, beats_of, heartbeat, heartbeat_by, part_of, records_by, records_of, removed_by, rules_by, rules_of, set_by, term_by, term_of}
+use Rattle.pd_state.specs.State.{began_by, began_of, beats_by, beats_of, heartbeat, heartbeat_by, part_of, records_by, removed_by, rules_by, rules_of, set_by, term_by, term_of}
 use Rattle.pd_state.specs.StoredRules.{rule_key, rule_told}
+use Rattle.pd_state.proofs.Records.{records_of}
 use Rattle.pd_state.proofs.RuleTexts.{means_told}
 
 -- the rules after an entry that asked this

@@ -228,10 +228,6 @@ abbrev pub kept_after : List Entry → Kept
 kept_after [] = record { records = []; planning = planning_told 0 [] }
 kept_after (entry ∷ entries) = kept_by entry (kept_after entries) (part_with entries (kept_after entries))
 
--- the records of the stores
-abbrev pub records_of : List Entry → List StoreRec
-records_of entries = (kept_after entries).records
-
 -- what stands after these entries of a term part
 abbrev pub part_of : List Entry → Part
 part_of entries = part_with entries (kept_after entries)
