@@ -6,6 +6,7 @@ use Rattle.json.specs.Print.{escape_byte}
 use Rattle.std.proofs.lemmas.Slice.Eq.{bytes_eq-Decides}
 use Rattle.pd_types.specs.declared.request.Request.{Request}
 use Rattle.pd_types.specs.declared.request.Request.TheVariants as ask
+use Rattle.rule_fit.specs.Suits.{is_among}
 use Rattle.sched_api.specs.Benches.{Seats, names_of}
 use Rattle.pd_ctl.specs.declared.command.Command.{Command}
 use Rattle.pd_ctl.specs.declared.command.Command.TheVariants as commands
@@ -16,7 +17,7 @@ use Rattle.pd_state.specs.BenchHeard.{Becomes, OverBench, asked_at, dropped, dro
 use Rattle.pd_state.specs.Ctl.{reply_or, words_report}
 use Rattle.pd_state.specs.Heard.{heard_of}
 use Rattle.pd_state.specs.Legal.{IsLegalAfter, first_reply}
-use Rattle.pd_state.specs.Reports.{command_told, done_tree, has_name, removal_tree, reported}
+use Rattle.pd_state.specs.Reports.{command_told, done_tree, removal_tree, reported}
 use Rattle.pd_state.specs.State.{moment_of, part_after}
 use Rattle.pd_state.specs.declared.entry.Entry.{Entry}
 use Rattle.pd_state.specs.declared.heard.Heard.{Heard}
@@ -34,8 +35,8 @@ unfolding escape_byte
 removed_is = refl
 
 -- a removal is answered Removed exactly where the name is there
-by_name : (name : List ℕ) (names : List (List ℕ)) (reply : Reply) → reply ≡ reported (removal_tree name names) → cond (has_name name names) (Some name) None ≡ cond (tells_removed reply) (Some name) None
-by_name name names reply is = subst (λ (r : Reply). cond (has_name name names) (Some name) None ≡ cond (tells_removed r) (Some name) None) (sym is) (by (has_name name names))
+by_name : (name : List ℕ) (names : List (List ℕ)) (reply : Reply) → reply ≡ reported (removal_tree name names) → cond (is_among name names) (Some name) None ≡ cond (tells_removed reply) (Some name) None
+by_name name names reply is = subst (λ (r : Reply). cond (is_among name names) (Some name) None ≡ cond (tells_removed r) (Some name) None) (sym is) (by (is_among name names))
   where
     by : (b : Bool) → cond b (Some name) None ≡ cond (tells_removed (reported (cond b (done_tree (codes "Removed")) (fault_tree (codes "absent"))))) (Some name) None
     by true = ap (λ (r : Reply). cond (tells_removed r) (Some name) None) (sym removed_is)

@@ -9,6 +9,7 @@ use Rattle.pd_types.specs.declared.request.Request.{Request}
 use Rattle.pd_types.specs.declared.request.Request.TheVariants as ask
 use Rattle.meta_store.specs.Asked.{AreAsked}
 use Rattle.meta_store.specs.declared.record.MetaAnswer.{MetaAnswer}
+use Rattle.rule_fit.specs.Suits.{is_among}
 use Rattle.sched_api.specs.Benches.{Drops, Seats, names_of}
 use Rattle.sched_api.specs.declared.scheduler.Said.{Said}
 use Rattle.pd_ctl.specs.declared.command.Command.{Command}
@@ -17,30 +18,30 @@ use Rattle.pd_ctl.specs.declared.fault.CtlFault.{CtlFault}
 use Rattle.pd_state.specs.BenchHeard.{Becomes, Leaves, asked_at, dropped, dropped_by, fate_told, found_name, names_by, names_heard, turns_of}
 use Rattle.pd_state.specs.Calls.{next_call}
 use Rattle.pd_state.specs.Ctl.{resigns_by}
-use Rattle.pd_state.specs.Reports.{command_told, has_name}
+use Rattle.pd_state.specs.Reports.{command_told}
 use Rattle.pd_state.specs.declared.heard.Heard.{Heard}
 use Rattle.pd_state.specs.declared.part.Part.{Part}
 use Rattle.pd_state.specs.declared.reply.Reply.{Reply}
 use Rattle.pd_state.proofs.Benched.{other_name, same_name}
 
 -- whether one of these names is the name
-none_has : (name : List ℕ) (names : List (List ℕ)) → has_name name names ≡ false → All (λ (one : List ℕ). one ≢ name) names
+none_has : (name : List ℕ) (names : List (List ℕ)) → is_among name names ≡ false → All (λ (one : List ℕ). one ≢ name) names
 none_has name [] is = All-nil (λ (one : List ℕ). one ≢ name)
 none_has name (one ∷ names) is = by (bytes_eq one name) refl is (none_has name names)
   where
-    by : (t : Bool) → bytes_eq one name ≡ t → (t || has_name name names) ≡ false → (has_name name names ≡ false → All (λ (other : List ℕ). other ≢ name) names) → All (λ (other : List ℕ). other ≢ name) (one ∷ names)
+    by : (t : Bool) → bytes_eq one name ≡ t → (t || is_among name names) ≡ false → (is_among name names ≡ false → All (λ (other : List ℕ). other ≢ name) names) → All (λ (other : List ℕ). other ≢ name) (one ∷ names)
     by true same h rest = absurd cc
     by false apart h rest = All-cons (λ (other : List ℕ). other ≢ name) one names (λ same. let both : true ≡ false = sym (same_name one name same) ∙ apart in cc) (rest h)
 
-none_of : (name : List ℕ) (names : List (List ℕ)) → All (λ (one : List ℕ). one ≢ name) names → has_name name names ≡ false
+none_of : (name : List ℕ) (names : List (List ℕ)) → All (λ (one : List ℕ). one ≢ name) names → is_among name names ≡ false
 none_of name [] h = refl
-none_of name (one ∷ names) h = ap (λ (t : Bool). t || has_name name names) (other_name one name (h 0 one (omega arith))) ∙ none_of name names (λ k d low. h (suc k) d (omega (arith, low)))
+none_of name (one ∷ names) h = ap (λ (t : Bool). t || is_among name names) (other_name one name (h 0 one (omega arith))) ∙ none_of name names (λ k d low. h (suc k) d (omega (arith, low)))
 
 -- the first of the name went, or there is none
 pub removed_so : {A E : Type 0} (name : List ℕ) (r : Result A E) (old new : Seats) → OnOk r (Drops name old new) → (IsErr r ↔ All (λ (one : List ℕ). one ≢ name) (names_of old)) → OnErr r (new ≡ old) → Leaves (found_name name (names_of old)) old new
-removed_so name (Ok done) old new drops absent stays = by (has_name name (names_of old)) refl
+removed_so name (Ok done) old new drops absent stays = by (is_among name (names_of old)) refl
   where
-    by : (t : Bool) → has_name name (names_of old) ≡ t → Leaves (cond t (Some name) None) old new
+    by : (t : Bool) → is_among name (names_of old) ≡ t → Leaves (cond t (Some name) None) old new
     by true is = drops
     by false is = absurd (let both : false ≡ true = absent.1 (none_has name (names_of old) is) in cc)
 removed_so name (Err e) old new drops absent stays = subst (λ (t : Bool). Leaves (cond t (Some name) None) old new) (sym (none_of name (names_of old) (absent.0 refl))) stays

@@ -16,6 +16,7 @@ use Rattle.op_control.specs.Table.{state_of}
 use Rattle.op_control.specs.declared.operator.OpState.{OpState}
 use Rattle.op_control.specs.declared.turn.Dispatch.{Dispatch}
 use Rattle.op_control.specs.declared.turn.Dispatch.TheVariants as dispatch
+use Rattle.rule_fit.specs.Suits.{is_among}
 use Rattle.pd_ctl.specs.Reports.{check_report, leader_report, operators_report, region_report, report_of, schedulers_report, store_report, stores_report, tso_report}
 use Rattle.pd_ctl.specs.Trees.{fault_tree}
 use Rattle.pd_ctl.specs.declared.command.Command.{Command}
@@ -24,7 +25,7 @@ use Rattle.pd_ctl.specs.declared.fault.CtlFault.{CtlFault}
 use Rattle.pd_ctl.specs.declared.parts.Parts.{Parts}
 use Rattle.pd_state.specs.AddingText.{dispatch_text}
 use Rattle.pd_state.specs.Ctl.{command_report, parts_of, words_report}
-use Rattle.pd_state.specs.Reports.{added_tree, ctl_fault_text, done_tree, has_name, removal_tree}
+use Rattle.pd_state.specs.Reports.{added_tree, ctl_fault_text, done_tree, removal_tree}
 use Rattle.pd_state.specs.StepTold.{sent_report}
 use Rattle.pd_state.specs.declared.part.Part.{Part}
 
@@ -81,7 +82,7 @@ unfolding escape_byte
 tso_no ts steps step same = apart 2 108 97 _ _ (λ h. absurd (omega (arith, h))) refl refl same
 
 removal_no : (name : List ℕ) (names : List (List ℕ)) → NoStep (removal_tree name names)
-removal_no name names = by (has_name name names)
+removal_no name names = by (is_among name names)
   where
     by : (t : Bool) → NoStep (cond t (done_tree (codes "Removed")) (fault_tree (codes "absent")))
     by true = done_no (codes "Removed")

@@ -3,13 +3,14 @@ use Rattle.std.specs.Prelude.{◌≡◌, ℕ, max, ◌++◌, Bool, true, false, 
 use Rattle.std.specs.Str.{bytes_eq}
 use Rattle.pd_types.specs.declared.request.Request.{Request}
 use Rattle.pd_types.specs.declared.request.Request.TheVariants as ask
+use Rattle.rule_fit.specs.Suits.{is_among}
 use Rattle.sched_api.specs.Benches.{Drops, Seat, Seats, TakesTurn, Tells, names_of}
 use Rattle.sched_api.specs.declared.scheduler.Fate.{Fate}
 use Rattle.sched_api.specs.declared.scheduler.Said.{Said}
 use Rattle.pd_ctl.specs.declared.command.Command.{Command}
 use Rattle.pd_ctl.specs.declared.command.Command.TheVariants as commands
 use Rattle.pd_ctl.specs.declared.fault.CtlFault.{CtlFault}
-use Rattle.pd_state.specs.Reports.{command_told, has_name}
+use Rattle.pd_state.specs.Reports.{command_told}
 use Rattle.pd_state.specs.Scheduling.{fate}
 use Rattle.pd_state.specs.State.{moment_of}
 use Rattle.pd_state.specs.Wishing.{region_of}
@@ -47,7 +48,7 @@ turns_of part request names = 0
 
 -- the name, where one of these is the same
 abbrev pub found_name : List ℕ → List (List ℕ) → Option (List ℕ)
-found_name name names = if has_name name names then Some name else None
+found_name name names = if is_among name names then Some name else None
 
 -- the name that a command takes out of these
 abbrev pub dropped_by : Result Command CtlFault → List (List ℕ) → Option (List ℕ)

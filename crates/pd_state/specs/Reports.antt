@@ -1,10 +1,9 @@
 -- The reports of faults and of pd-ctl's commands that change a cluster (pd-ctl's output; which fields stand there is our own choice).
-use Rattle.std.specs.Prelude.{ℕ, List, codes, Bool, if◌then◌else◌, Result}
-use Rattle.std.specs.List.{list_any}
-use Rattle.std.specs.Str.{bytes_eq}
+use Rattle.std.specs.Prelude.{ℕ, List, codes, if◌then◌else◌, Result}
 use Rattle.serde_json.specs.Data.{Data, object, member, no_members, string}
 use Rattle.serde_json.specs.Written.{compact_text}
 use Rattle.op_control.specs.declared.turn.Dispatch.{Dispatch}
+use Rattle.rule_fit.specs.Suits.{is_among}
 use Rattle.pd_ctl.specs.Commands.{command_of}
 use Rattle.pd_ctl.specs.Trees.{count, fault_tree, single}
 use Rattle.pd_ctl.specs.declared.command.Command.{Command}
@@ -50,10 +49,6 @@ adding_tree steps (adding.Conflict found) = fault_tree (adding_text (adding.Conf
 adding_tree steps adding.MetaLimit = fault_tree (adding_text adding.MetaLimit)
 adding_tree steps adding.IdsSpent = fault_tree (adding_text adding.IdsSpent)
 
--- a scheduler of this name is among those of these names
-abbrev pub has_name : List ℕ → List (List ℕ) → Bool
-has_name name names = list_any (λ one. bytes_eq one name) names
-
 -- whether the scheduler of this name goes
 abbrev pub removal_tree : List ℕ → List (List ℕ) → Data
-removal_tree name names = if has_name name names then done_tree (codes "Removed") else fault_tree (codes "absent")
+removal_tree name names = if is_among name names then done_tree (codes "Removed") else fault_tree (codes "absent")

@@ -3,10 +3,11 @@ ghost use Rattle.std.specs.Prelude.{◌≡◌, ◌≢◌, false, IfOk};
 ghost use Rattle.std.specs.Option.{option_map};
 ghost use Rattle.serde_json.specs.View.{view};
 ghost use Rattle.serde_json.specs.Written.{has_float};
+ghost use Rattle.rule_fit.specs.Suits.{is_among};
 ghost use Rattle.pd_ctl.specs.Trees.{fault_tree};
 ghost use Rattle.pd_ctl.specs.declared.fault.CtlFault.TheVariants as faults;
 ghost use Rattle.pd_state.specs.Ctl.{HaveRate, command_report};
-ghost use Rattle.pd_state.specs.Reports.{adding_tree, command_told, ctl_fault_text, done_tree, has_name, reported};
+ghost use Rattle.pd_state.specs.Reports.{adding_tree, command_told, ctl_fault_text, done_tree, reported};
 
 use crate::adding::{Adding, DispatchText};
 use crate::{Part, Reply};
@@ -102,7 +103,7 @@ pub fn added(alloc: Global, steps: u64, adding: Adding) -> Result<Reply, NoMemor
 
 // Whether one of these names is this one.
 fn has_name(name: &Text, names: &Texts) -> bool
-    ensures { result ≡ has_name name.now names.now }
+    ensures { result ≡ is_among name.now names.now }
 {
     names
         .as_slice()
