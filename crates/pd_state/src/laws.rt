@@ -152,6 +152,10 @@ pub fn a_term_tells_its_stores_and_rules()
         first_reply driver None (ask.Rule moment json) heard ≡ replies.NotLeading }
     ensures unrule { (driver : ℕ) (moment : ℕ) (group id : List ℕ) (heard : Heard) →
         first_reply driver None (ask.Unrule moment group id) heard ≡ replies.NotLeading }
+    ensures check { (driver : ℕ) (moment region : ℕ) (heard : Heard) →
+        first_reply driver None (ask.Check moment region) heard ≡ replies.NotLeading }
+    ensures patrol { (driver : ℕ) (moment workers : ℕ) (heard : Heard) →
+        first_reply driver None (ask.Patrol moment workers) heard ≡ replies.NotLeading }
     ensures schedule { (driver : ℕ) (moment : ℕ) (heard : Heard) →
         first_reply driver None (ask.Schedule moment) heard ≡ replies.NotLeading }
     ensures ctl { (driver : ℕ) (moment : ℕ) (words : List ℕ) (heard : Heard) →
